@@ -1,0 +1,5 @@
+pub mod Letters
+pub mod Books
+pub mod Components
+pub mod Refusals
+pub mod Studies

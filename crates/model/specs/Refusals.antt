@@ -1,0 +1,51 @@
+-- What each refusal says: the number of the question that failed, and what it carries, in the order of the refusal line.
+use mathlib.Core.List.{List, [], _∷_}
+use Prim.Native.Nat.{ℕ}
+use Rattle.model.specs.Letters.{letter}
+use Rattle.model.specs.declared.answer.Cause.{Cause}
+use Rattle.model.specs.declared.answer.Cause.the-variants.{BeyondLimits, EnteredTwice}
+use Rattle.model.specs.declared.question.Question.{Question}
+use Rattle.model.specs.declared.question.Question.the-variants.{OfOption, OfResource}
+use Rattle.model.specs.declared.refusal.Refusal.{Refusal}
+use Rattle.model.specs.declared.refusal.Refusal.the-variants.{EchelonCount, ResourceCount, StudyFull, UnknownParent, TooDeep, UnknownResource, RateOutOfRange, NoComponent, ShortPlan, BookFault, ByteTooLarge, ReachMismatch, BeforeStart, OptionClosed, ResourceClosed, FileLength, RecordKind, RecordContent, ComponentNumber, RecordRefused}
+
+-- a number, or a character by its code
+pub data Word : Type 0 where
+  num : ℕ → Word
+  sign : ℕ → Word
+
+pub record Said : Type 0 where
+  pub number : ℕ
+  pub carried : List Word
+
+-- 1: a charge beyond the limits; 2: entered twice
+abbrev pub cause-number : Cause → ℕ
+cause-number BeyondLimits = 1
+cause-number EnteredTwice = 2
+
+-- a question: the component with the echelon and the option's letter, or the resource with the echelon and F
+abbrev pub asked : Question → List Word
+asked (OfOption i e o) = num i ∷ num e ∷ sign (letter o) ∷ []
+asked (OfResource r e) = num r ∷ num e ∷ sign 70 ∷ []
+
+abbrev pub said : Refusal → Said
+said EchelonCount = record { number = 1; carried = [] }
+said ResourceCount = record { number = 2; carried = [] }
+said StudyFull = record { number = 3; carried = [] }
+said UnknownParent = record { number = 4; carried = [] }
+said TooDeep = record { number = 5; carried = [] }
+said UnknownResource = record { number = 6; carried = [] }
+said RateOutOfRange = record { number = 7; carried = [] }
+said NoComponent = record { number = 9; carried = [] }
+said ShortPlan = record { number = 10; carried = [] }
+said (BookFault f) = record { number = 12; carried = num (cause-number (f .cause)) ∷ sign (f .letter) ∷ num (f .height) ∷ asked (f .question) }
+said (ByteTooLarge i) = record { number = 14; carried = num i ∷ [] }
+said (ReachMismatch i) = record { number = 15; carried = num i ∷ [] }
+said (BeforeStart i) = record { number = 16; carried = num i ∷ [] }
+said (OptionClosed i) = record { number = 17; carried = num i ∷ [] }
+said (ResourceClosed i) = record { number = 18; carried = num i ∷ [] }
+said FileLength = record { number = 31; carried = [] }
+said (RecordKind k) = record { number = 32; carried = num k ∷ [] }
+said (RecordContent k) = record { number = 33; carried = num k ∷ [] }
+said (ComponentNumber k) = record { number = 34; carried = num k ∷ [] }
+said (RecordRefused k n) = record { number = 35; carried = num k ∷ num n ∷ [] }
