@@ -1,0 +1,2 @@
+pub mod StudyX
+pub mod Figures

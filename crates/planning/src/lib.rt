@@ -1,0 +1,3 @@
+// Planning: the survey of a book, and the price of a plan.
+mod route;
+mod table;

@@ -1,0 +1,9 @@
+pub mod Ranges
+pub mod Questions
+pub mod Postings
+pub mod Starts
+pub mod Uses
+pub mod Plans
+pub mod Prices
+pub mod Orders
+pub mod Laws
