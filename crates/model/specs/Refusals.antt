@@ -23,10 +23,21 @@ abbrev pub cause-number : Cause → ℕ
 cause-number BeyondLimits = 1
 cause-number EnteredTwice = 2
 
--- a question: the component with the echelon and the option's letter, or the resource with the echelon and F
+-- what a question asks about: the component or the resource, the echelon, and the option's letter or F
+abbrev pub subject : Question → ℕ
+subject (OfOption i e o) = i
+subject (OfResource r e) = r
+
+abbrev pub at-echelon : Question → ℕ
+at-echelon (OfOption i e o) = e
+at-echelon (OfResource r e) = e
+
+abbrev pub option-letter : Question → ℕ
+option-letter (OfOption i e o) = letter o
+option-letter (OfResource r e) = 70
+
 abbrev pub asked : Question → List Word
-asked (OfOption i e o) = num i ∷ num e ∷ sign (letter o) ∷ []
-asked (OfResource r e) = num r ∷ num e ∷ sign 70 ∷ []
+asked q = num (subject q) ∷ num (at-echelon q) ∷ sign (option-letter q) ∷ []
 
 abbrev pub said : Refusal → Said
 said EchelonCount = record { number = 1; carried = [] }

@@ -1,0 +1,15 @@
+pub mod Ties
+pub mod Reading
+pub mod Below
+pub mod Members
+pub mod Apart
+pub mod Surveyed
+pub mod AskedOnce
+pub mod Objecting
+pub mod Using
+pub mod Asking
+pub mod Reached
+pub mod Accepted
+pub mod PostedOnce
+pub mod Costing
+pub mod Pricing

@@ -1,0 +1,45 @@
+// quote: prices a plan for a study file. `quote BYTE.. < FILE`
+mod quotation;
+
+use quotation::Quotation;
+use quotation::quotation;
+use std::env;
+use std::error::AnyError;
+use std::io::Read;
+
+// One byte more than the longest study file, so that a longer one is seen and refused, not cut.
+const MOST_READ: u64 = 65_521;
+
+const USAGE: &str = "usage: quote BYTE.. < FILE
+Prices a plan for the study in FILE. The plan has one number a component, in the order of their numbers:
+0 for not reached, 2e - 1 for discard at echelon e, 2e for repair at echelon e.
+Prints what is decided for each component and the total in cents over a thousand years, or the line of the refusal.";
+
+fn main(rt: LibcRuntime) -> Result<(), AnyError> {
+    let mut plan = Vec::new(rt.alloc());
+    for word in env::args(&rt)?.skip(1) {
+        if word.as_str() == "--help" {
+            println!(rt, "{USAGE}")?;
+            return Ok(());
+        }
+        match word.parse::<u8>() {
+            Ok(byte) => plan.push(byte)?,
+            Err(_) => {
+                eprintln!(rt, "quote: '{word}' is no byte of a plan: a number from 0 to 255 is expected")?;
+                return Err("no byte of a plan".into());
+            }
+        }
+    }
+    let mut file = Vec::new(rt.alloc());
+    rt.stdin().take(MOST_READ).read_to_end(&mut file)?;
+    match quotation(rt.alloc(), file.as_slice(), plan.as_slice())? {
+        Quotation::Priced(text) => {
+            print!(rt, "{text}")?;
+            Ok(())
+        }
+        Quotation::Refused(line) => {
+            print!(rt, "{line}")?;
+            Err("the plan or the file is refused".into())
+        }
+    }
+}
