@@ -24,8 +24,8 @@ study-x = record {
   echelons = 2;
   resources = 1;
   components =
-    record { parent = None; level = 1; needs = record { discard = 0; repair = 1; moving = 0 }; rate = 2000 }
-    ∷ record { parent = Some 0; level = 2; needs = no-needs; rate = 1000 } ∷ [];
+      record { parent = None; level = 1; needs = record { discard = 0; repair = 1; moving = 0 }; rate = 2000 }
+      ∷ record { parent = Some 0; level = 2; needs = no-needs; rate = 1000 } ∷ [];
 }
 
 abbrev charge : ℕ → ℕ → Answer

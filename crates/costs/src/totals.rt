@@ -18,7 +18,10 @@ impl Total {
     fn of(posting: Posting) -> Total
         ensures { λ r. ⌜ r ≡ totals .post posting ⌝ }
     {
-        Total { cents: posting.cents, minutes: posting.minutes }
+        Total {
+            cents: posting.cents,
+            minutes: posting.minutes,
+        }
     }
 
     fn plus(self, other: Total) -> Total

@@ -37,11 +37,11 @@ rows-push q xs c sound r k h =
     let n = length-push xs c in
     let in-xs : length xs ≤ length xs = omega arith in
     elim (cases-lt k (length xs)) [
-      inl l ↦ row-kept q xs (xs ++ c ∷ []) sound (length xs) in-xs (λ j b. getD-append-left xs (c ∷ []) no-component j b) k l
-    | inr g ↦
-        let e : length xs ≡ k = omega arith in
-        let o = level-same xs (xs ++ c ∷ []) (length xs) (c .parent) (λ j b. getD-append-left xs (c ∷ []) no-component j b) (r .0) in
-        subst (λ x. Row q (xs ++ c ∷ []) k x) (sym (getD-push xs c no-component k e)) (subst (λ j. is-entered j (c .parent) ≡ true) e (r .0), r .1 ∙ o, r .2, r .3, r .4)
+      | inl l ↦ row-kept q xs (xs ++ c ∷ []) sound (length xs) in-xs (λ j b. getD-append-left xs (c ∷ []) no-component j b) k l
+      | inr g ↦
+          let e : length xs ≡ k = omega arith in
+          let o = level-same xs (xs ++ c ∷ []) (length xs) (c .parent) (λ j b. getD-append-left xs (c ∷ []) no-component j b) (r .0) in
+          subst (λ x. Row q (xs ++ c ∷ []) k x) (sym (getD-push xs c no-component k e)) (subst (λ j. is-entered j (c .parent) ≡ true) e (r .0), r .1 ∙ o, r .2, r .3, r .4)
     ]
 
 pub rows-take : (q : ℕ) (xs : List Component) (n : ℕ) → Rows q xs → Rows q (take n xs)

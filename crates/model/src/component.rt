@@ -47,6 +47,8 @@ impl Needs {
         ensures { λ r. ⌜ r ≡ names-below resources self ⌝ }
     {
         let end = 1u16 << resources;
-        u16::from(self.discard) < end && u16::from(self.repair) < end && u16::from(self.moving) < end
+        u16::from(self.discard) < end
+            && u16::from(self.repair) < end
+            && u16::from(self.moving) < end
     }
 }

@@ -13,8 +13,15 @@ pub enum RepairOption {
 // The charge of one option of a component at an echelon, or of a resource at an echelon.
 #[derive(Clone, Copy, PartialEq, Eq, Debug)]
 pub enum Question {
-    OfOption { component: u8, echelon: u8, option: RepairOption },
-    OfResource { resource: u8, echelon: u8 },
+    OfOption {
+        component: u8,
+        echelon: u8,
+        option: RepairOption,
+    },
+    OfResource {
+        resource: u8,
+        echelon: u8,
+    },
 }
 
 impl RepairOption {

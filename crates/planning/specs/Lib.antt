@@ -1,1 +1,4 @@
 pub mod Surveys
+pub mod Sums
+pub mod OpenRows
+pub mod Objections

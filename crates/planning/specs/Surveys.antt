@@ -36,12 +36,12 @@ no-resource = record { echelons = [] }
 abbrev pub choices-of : Model → Book → ℕ → ℕ → Choices
 choices-of s b i e =
     cond (leb e (s .echelons))
-      (record {
-        discard = posting s b (OfOption i e Discard);
-        repair = posting s b (OfOption i e Repair);
-        moving = cond (ltb e (s .echelons)) (posting s b (OfOption i e Move)) None;
-      })
-      no-choices
+    (record {
+      discard = posting s b (OfOption i e Discard);
+      repair = posting s b (OfOption i e Repair);
+      moving = cond (ltb e (s .echelons)) (posting s b (OfOption i e Move)) None;
+    })
+    no-choices
 
 abbrev pub option-row : Model → Book → ℕ → OptionRow
 option-row s b i = record { echelons = choices-of s b i 1 ∷ choices-of s b i 2 ∷ choices-of s b i 3 ∷ choices-of s b i 4 ∷ [] }

@@ -1,8 +1,12 @@
 // The way of one component in a plan: the echelon where it starts, and its byte.
+ghost use mathlib.Core.Bool.{_&&_, _||_};
 ghost use mathlib.Core.Path.{_≡_};
+ghost use Rattle.model.specs.Components.{needs-resource};
+ghost use Rattle.model.specs.declared.question.RepairOption.the-variants.{Discard, Repair, Move};
 ghost use Rattle.plans.specs.Starts.{byte, final, repaired-at, start-under};
 ghost use Rattle.plans.specs.Uses.{uses-at};
 use model::component::Component;
+use model::component::Needs;
 use model::question::RepairOption;
 
 // The start is 0 where the component is not reached.
@@ -43,7 +47,10 @@ impl Route {
             None => 1,
             Some(parent) => repaired_at(byte_of(plan, usize::from(parent))),
         };
-        Route { start, byte: byte_of(plan, number) }
+        Route {
+            start,
+            byte: byte_of(plan, number),
+        }
     }
 
     // The final echelon, where the component is discarded or repaired.
@@ -64,5 +71,21 @@ impl Route {
                 RepairOption::Repair => u16::from(self.byte) == twice,
                 RepairOption::Move => self.start <= echelon && echelon < self.last(),
             }
+    }
+
+    // Whether the component uses that option at that echelon, and the option needs that resource.
+    fn needs_by(self, needs: Needs, echelon: u8, resource: u8, option: RepairOption) -> bool
+        ensures { λ r. ⌜ r ≡ uses-at (self .start) (self .byte) echelon option && needs-resource needs option resource ⌝ }
+    {
+        self.uses(echelon, option) && needs.includes(option, resource)
+    }
+
+    // Whether the component, with those needs, needs that resource at that echelon.
+    pub(crate) fn needs(self, needs: Needs, echelon: u8, resource: u8) -> bool
+        ensures { λ r. ⌜ r ≡ (uses-at (self .start) (self .byte) echelon Discard && needs-resource needs Discard resource) || ((uses-at (self .start) (self .byte) echelon Repair && needs-resource needs Repair resource) || (uses-at (self .start) (self .byte) echelon Move && needs-resource needs Move resource)) ⌝ }
+    {
+        self.needs_by(needs, echelon, resource, RepairOption::Discard)
+            || self.needs_by(needs, echelon, resource, RepairOption::Repair)
+            || self.needs_by(needs, echelon, resource, RepairOption::Move)
     }
 }

@@ -13,3 +13,6 @@ pub mod Accepted
 pub mod PostedOnce
 pub mod Costing
 pub mod Pricing
+pub mod Joined
+pub mod Fitting
+pub mod Counting

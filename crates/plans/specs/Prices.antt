@@ -79,10 +79,10 @@ judged k s b plan = or-refuse (first-objection s b plan) (cost-or-refuse (summed
 abbrev pub priced : {C : Type 0} → Adding C → Model → Book → List ℕ → Result C Refusal
 priced k s b bytes =
     cond (leb 1 (count s))
-      (cond (leb (count s) (length bytes))
-        (or-refuse (fault-refusal (first-fault b (questions s))) (judged k s b (take (count s) bytes)))
-        (Err ShortPlan))
-      (Err NoComponent)
+    (cond (leb (count s) (length bytes))
+    (or-refuse (fault-refusal (first-fault b (questions s))) (judged k s b (take (count s) bytes)))
+    (Err ShortPlan))
+    (Err NoComponent)
 
 -- Where a component is entered, the bytes suffice and the survey meets no fault, the answer is a cost exactly when the
 -- bytes are a plan, and the cost is that plan's.

@@ -25,7 +25,10 @@ fn main(rt: LibcRuntime) -> Result<(), AnyError> {
         match word.parse::<u8>() {
             Ok(byte) => plan.push(byte)?,
             Err(_) => {
-                eprintln!(rt, "quote: '{word}' is no byte of a plan: a number from 0 to 255 is expected")?;
+                eprintln!(
+                    rt,
+                    "quote: '{word}' is no byte of a plan: a number from 0 to 255 is expected"
+                )?;
                 return Err("no byte of a plan".into());
             }
         }

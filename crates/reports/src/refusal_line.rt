@@ -28,7 +28,10 @@ pub fn refusal_line(heap: Global, refusal: &Refusal) -> Result<String, AllocErro
         Refusal::RecordKind { record }
         | Refusal::RecordContent { record }
         | Refusal::ComponentNumber { record } => format!(heap, "refused {number} {record}\n"),
-        Refusal::RecordRefused { record, number: study } => format!(heap, "refused {number} {record} {study}\n"),
+        Refusal::RecordRefused {
+            record,
+            number: study,
+        } => format!(heap, "refused {number} {record} {study}\n"),
         _ => format!(heap, "refused {number}\n"),
     }
 }

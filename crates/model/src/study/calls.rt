@@ -20,7 +20,11 @@ const NO_PARENT: u8 = 255;
 fn parent_of(number: u8) -> Option<u8>
     ensures { λ r. ⌜ r ≡ parent-of number ⌝ }
 {
-    if number == NO_PARENT { None } else { Some(number) }
+    if number == NO_PARENT {
+        None
+    } else {
+        Some(number)
+    }
 }
 
 impl Study {
@@ -29,7 +33,11 @@ impl Study {
         ensures { λ r. ⌜ made r (λ s. model s ≡ blank-study) ⌝ }
     {
         let rows = Vec::with_capacity(heap, 60)?;
-        Ok(Study { echelons: 1, resources: 0, table: Table { rows } })
+        Ok(Study {
+            echelons: 1,
+            resources: 0,
+            table: Table { rows },
+        })
     }
 
     // Sets echelons and resources, and empties the study.
@@ -70,7 +78,12 @@ impl Study {
         if rate < 1 || rate > 1_000_000 {
             return Err(Refusal::RateOutOfRange);
         }
-        self.table.rows.push_reserved(Component { parent, level, needs, rate });
+        self.table.rows.push_reserved(Component {
+            parent,
+            level,
+            needs,
+            rate,
+        });
         Ok(number as u8)
     }
 

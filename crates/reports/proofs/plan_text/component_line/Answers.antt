@@ -14,7 +14,7 @@ pub returns-in-Some : need.returns-in-Some
 returns-in-Some c =
     let i = c .args .number in
     let Letter : ℕ → Type 0 =
-        λ o. made (c .format-in-Some .result) (λ t. string-bytes t ≡ decimal i ++ (codes " " ++ (encode o ++ (decimal (c .in-Some .echelon) ++ codes "\n")))) in
+    λ o. made (c .format-in-Some .result) (λ t. string-bytes t ≡ decimal i ++ (codes " " ++ (encode o ++ (decimal (c .in-Some .echelon) ++ codes "\n")))) in
     let Line : Option (ℕ × ℕ) → Type 0 =
-        λ d. made (c .format-in-Some .result) (λ t. string-bytes t ≡ decimal i ++ (codes " " ++ decision-text d (codes "\n"))) in
+    λ d. made (c .format-in-Some .result) (λ t. string-bytes t ≡ decimal i ++ (codes " " ++ decision-text d (codes "\n"))) in
     subst Line (c .in-Some .ensures tt) (subst Letter (c .choice-letter-letter .ensures) (c .format-in-Some .ensures .made))
