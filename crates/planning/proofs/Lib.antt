@@ -6,3 +6,8 @@ pub mod Every
 pub mod FirstBelow
 pub mod OpenRows
 pub mod Objections
+pub mod Faults
+pub mod Filled
+pub mod Posts
+pub mod Rates
+pub mod Answered

@@ -53,10 +53,17 @@ pair-posting s b r e = cond (leb e (s .echelons)) (posting s b (OfResource r e))
 abbrev pub resource-row : Model → Book → ℕ → ResourceRow
 resource-row s b r = record { echelons = pair-posting s b r 1 ∷ pair-posting s b r 2 ∷ pair-posting s b r 3 ∷ pair-posting s b r 4 ∷ [] }
 
+-- the rows of the components below n, and of the resources below n
+abbrev pub OptionRows : Model → Book → ℕ → List OptionRow → Type 0
+OptionRows s b n rows = (i : ℕ) → i < n → getD rows i no-options ≡ option-row s b i
+
+abbrev pub ResourceRows : Model → Book → ℕ → List ResourceRow → Type 0
+ResourceRows s b n rows = (r : ℕ) → r < n → getD rows r no-resource ≡ resource-row s b r
+
 -- the survey has a row for each component and each resource of the study
 pub record Keeps (s : Model) (b : Book) (t : Survey) : Type 0 where
-  pub options : (i : ℕ) → i < count s → getD (t .options) i no-options ≡ option-row s b i
-  pub resources : (r : ℕ) → r < s .resources → getD (t .resources) r no-resource ≡ resource-row s b r
+  pub options : OptionRows s b (count s) (t .options)
+  pub resources : ResourceRows s b (s .resources) (t .resources)
 
 -- the first fault that the survey meets, or all that it learned
 abbrev pub Surveyed : Model → Book → Result Survey Fault → Type 0

@@ -1,4 +1,9 @@
-// Planning: the survey of a book, and the price of a plan.
+// Planning: the survey of a book, the decision of a byte, and the price of a plan.
+mod checks;
+pub mod decision;
+pub mod laws;
+pub mod price;
 mod route;
+mod survey;
 mod table;
 mod totals;

@@ -39,7 +39,7 @@ has-cost (Some d) c h = cc
 
 module _ {C : Type 0} (k : Adding C) (s : Model) (b : Book) where
   -- where the study and the survey are in order, the components alone decide
-  priced-is-judged : (bytes : List ℕ) → Ready s b bytes → priced k s b bytes ≡ judged k s b (take (count s) bytes)
+  pub priced-is-judged : (bytes : List ℕ) → Ready s b bytes → priced k s b bytes ≡ judged k s b (take (count s) bytes)
   priced-is-judged bytes ready =
       cond-true (leb 1 (count s)) _ _ (le-leb _ _ (ready .some-component))
       ∙ cond-true (leb (count s) (length bytes)) _ _ (le-leb _ _ (ready .enough-bytes))

@@ -2,7 +2,7 @@
 mod quotation;
 
 use quotation::Quotation;
-use quotation::quotation;
+use quotation::quote_plan;
 use std::env;
 use std::error::AnyError;
 use std::io::Read;
@@ -35,7 +35,7 @@ fn main(rt: LibcRuntime) -> Result<(), AnyError> {
     }
     let mut file = Vec::new(rt.alloc());
     rt.stdin().take(MOST_READ).read_to_end(&mut file)?;
-    match quotation(rt.alloc(), file.as_slice(), plan.as_slice())? {
+    match quote_plan(rt.alloc(), file.as_slice(), plan.as_slice())? {
         Quotation::Priced(text) => {
             print!(rt, "{text}")?;
             Ok(())

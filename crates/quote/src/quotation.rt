@@ -1,7 +1,9 @@
 // The answer to a study file and a plan: the priced plan as text, or the line of the refusal.
 ghost use mathlib.Core.Path.{_≡_};
 ghost use Rattle.std.specs.Vec.{made};
-ghost use Rattle.quote.specs.Quoted.{Shows, quoted};
+ghost use Rattle.std.specs.declared.result.Result.the-variants.{Ok};
+ghost use Rattle.model.specs.Studies.{model};
+ghost use Rattle.quote.specs.Quoted.{Shows, quoted-for, quoted};
 use costs::money::Money;
 use costs::money::MoneyKind;
 use files::intake::IntakeError;
@@ -21,19 +23,30 @@ pub(crate) enum Quotation {
     Refused(String),
 }
 
-// Takes the file in, and prices the plan by money with the table book of the same file.
-pub(crate) fn quotation(heap: Global, file: &[u8], plan: &[u8]) -> Result<Quotation, AllocError>
+// Prices the plan by money with the table book of the file.
+fn quote_study(
+    heap: Global,
+    study: &Study,
+    file: &[u8],
+    plan: &[u8],
+) -> Result<Quotation, AllocError>
+    ensures { λ r. ⌜ made r (λ q. Shows q (quoted-for (now (file .entry)) (now (plan .entry)) (Ok (model (now (study .entry)))))) ⌝ }
+{
+    let count = study.components().len();
+    match price(study, &TableBook { bytes: file }, &Money, plan) {
+        Ok(cents) => Ok(Quotation::Priced(plan_text(heap, &plan[0..count], cents)?)),
+        Err(why) => Ok(Quotation::Refused(refusal_line(heap, &why)?)),
+    }
+}
+
+// Takes the file in, and prices the plan for the study that it makes.
+pub(crate) fn quote_plan(heap: Global, file: &[u8], plan: &[u8]) -> Result<Quotation, AllocError>
     ensures { λ r. ⌜ made r (λ q. Shows q (quoted (now (file .entry)) (now (plan .entry)))) ⌝ }
 {
     let mut study = Study::blank(heap)?;
     match intake(&mut study, heap, file) {
-        Ok(()) => {}
-        Err(IntakeError::OutOfMemory) => return Err(AllocError),
-        Err(IntakeError::Refused(why)) => return Ok(Quotation::Refused(refusal_line(heap, &why)?)),
-    }
-    let count = study.components().len();
-    match price(&study, &TableBook { bytes: file }, &Money, plan) {
-        Ok(cents) => Ok(Quotation::Priced(plan_text(heap, &plan[0..count], cents)?)),
-        Err(why) => Ok(Quotation::Refused(refusal_line(heap, &why)?)),
+        Ok(()) => quote_study(heap, &study, file, plan),
+        Err(IntakeError::Refused(why)) => Ok(Quotation::Refused(refusal_line(heap, &why)?)),
+        Err(IntakeError::OutOfMemory) => Err(AllocError),
     }
 }

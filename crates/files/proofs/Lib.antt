@@ -1,0 +1,10 @@
+pub mod Fronts
+pub mod Puts
+pub mod Blanks
+pub mod RecordLists
+pub mod ChargeLists
+pub mod Runs
+pub mod Outcomes
+pub mod RecordKinds
+pub mod Steps
+pub mod AcceptedRuns

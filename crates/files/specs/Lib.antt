@@ -1,0 +1,6 @@
+pub mod Records
+pub mod TableAnswers
+pub mod TableLimits
+pub mod FoundCharges
+pub mod Intakes
+pub mod AcceptedFiles

@@ -1,0 +1,10 @@
+// What holds of every file.
+ghost use Rattle.files.specs.AcceptedFiles.{AcceptedExactly};
+
+// The intake accepts a file exactly when it is one N, then C, then T and F, rightly filled in and numbered, of which open and
+// enter accept all; and the study is what these calls make.
+pub fn accepted_files() -> u8
+    ensures { λ _. ⌜ AcceptedExactly ⌝ }
+{
+    0
+}
