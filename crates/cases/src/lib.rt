@@ -21,7 +21,11 @@ mod tests {
     // What a component of that rate is answered in a blank study.
     fn rated(rt: LibcRuntime, rate: u32) -> Result<Result<u8, Refusal>, Fail> {
         let mut study = Study::blank(rt.alloc())?;
-        let needs = Needs { discard: 0, repair: 0, moving: 0 };
+        let needs = Needs {
+            discard: 0,
+            repair: 0,
+            moving: 0,
+        };
         Ok(study.enter(255, needs, rate))
     }
 

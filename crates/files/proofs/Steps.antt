@@ -1,8 +1,8 @@
 -- One record at each stage: when it is taken in, and what it leaves.
-use mathlib.Core.Path.{_≡_, sym, ap, _∙_}
+use mathlib.Core.Path.{_≡_, refl, sym, ap, _∙_}
 use mathlib.Core.Logic.{_⊎_, inl, inr}
 use mathlib.Core.List.{List}
-use mathlib.Core.Bool.{cond}
+use mathlib.Core.Bool.{Bool, true, cond}
 use Prim.Native.Nat.{ℕ}
 use lib.Dec.{eqb}
 use lib.ListN.{length}
@@ -60,23 +60,16 @@ IsCharge r = IsT r ⊎ IsF r
 abbrev pub Charged : Model → List ℕ → State → Type 0
 Charged s r t = IsCharge r × (at-stage Charges s ≡ t)
 
-charged-T : (s : Model) (at : ℕ) (r : List ℕ) (t : State) → kind r ≡ letter-T → by-kind letter-T Charges s at r ≡ Ok t → Charged s r t
-charged-T s at r t e h =
-    let passed = ok-test (filled-as letter-T r) (Ok (at-stage Charges s)) (no.RecordContent at) t h in
-    (inl (filled-T r e (passed .0)), same-ok (passed .1))
-
-charged-F : (s : Model) (at : ℕ) (r : List ℕ) (t : State) → kind r ≡ letter-F → by-kind letter-F Charges s at r ≡ Ok t → Charged s r t
-charged-F s at r t e h =
-    let passed = ok-test (filled-as letter-F r) (Ok (at-stage Charges s)) (no.RecordContent at) t h in
-    (inr (filled-F r e (passed .0)), same-ok (passed .1))
+charged : (b : Bool) (s : Model) (at : ℕ) (r : List ℕ) (t : State) → (b ≡ true → IsCharge r) → cond b (Ok (at-stage Charges s)) (Err (no.RecordContent at)) ≡ Ok t → Charged s r t
+charged b s at r t is h = let passed = ok-test b (Ok (at-stage Charges s)) (no.RecordContent at) t h in (is (passed .0), same-ok (passed .1))
 
 pub charges-step : (s : Model) (at : ℕ) (r : List ℕ) (t : State) → on-record (at-stage Charges s) at r ≡ Ok t → Charged s r t
 charges-step s at r t h =
     elim (kind-of (kind r)) [
       | an-N e ↦ absurd (not-both (as-kind letter-N Charges s at r e ∙ h))
       | a-C e ↦ absurd (not-both (as-kind letter-C Charges s at r e ∙ h))
-      | a-T e ↦ charged-T s at r t e (as-kind letter-T Charges s at r e ∙ h)
-      | an-F e ↦ charged-F s at r t e (as-kind letter-F Charges s at r e ∙ h)
+      | a-T e ↦ charged (filled-as letter-T r) s at r t (λ f. inl (filled-T r e f)) (as-kind letter-T Charges s at r e ∙ h)
+      | an-F e ↦ charged (filled-as letter-F r) s at r t (λ f. inr (filled-F r e f)) (as-kind letter-F Charges s at r e ∙ h)
       | another none ↦ absurd (stageless Charges s at r t (none Charges) h)
     ]
 
@@ -98,8 +91,8 @@ components-step s at r t h =
     elim (kind-of (kind r)) [
       | an-N e ↦ absurd (not-both (as-kind letter-N Components s at r e ∙ h))
       | a-C e ↦ inl (entering s at r t e (as-kind letter-C Components s at r e ∙ h))
-      | a-T e ↦ inr (charged-T s at r t e (as-kind letter-T Components s at r e ∙ h))
-      | an-F e ↦ inr (charged-F s at r t e (as-kind letter-F Components s at r e ∙ h))
+      | a-T e ↦ inr (charged (filled-as letter-T r) s at r t (λ f. inl (filled-T r e f)) (as-kind letter-T Components s at r e ∙ h))
+      | an-F e ↦ inr (charged (filled-as letter-F r) s at r t (λ f. inr (filled-F r e f)) (as-kind letter-F Components s at r e ∙ h))
       | another none ↦ absurd (stageless Components s at r t (none Components) h)
     ]
 
@@ -119,13 +112,14 @@ component-taken s u n at r i next e =
     ∙ ap (λ b. on (cond b (accepted at call) (Err (no.ComponentNumber at)))) (eq-eqb (byte r 1) (length (s .components)) next)
     ∙ ap (λ o. on (accepted at o)) e
 
--- at a stage that a T and an F may follow
+-- a record of a kind that goes on to the stage of charges and leaves the study
+charging : (k : ℕ) (g : Stage) (s : Model) (at : ℕ) (r : List ℕ) → kind r ≡ k → next-stage g k ≡ Some Charges → on-kind k s at r ≡ Ok s → filled-as k r ≡ true → on-record (at-stage g s) at r ≡ Ok (at-stage Charges s)
+charging k g s at r e may leaves filled =
+    sym (as-kind k g s at r e)
+    ∙ ap (λ o. judged at o (filled-as k r) (on-kind k s at r)) may
+    ∙ ap (λ b. judged at (Some Charges) b (on-kind k s at r)) filled
+    ∙ ap (judged at (Some Charges) true) leaves
+
 pub charge-taken : (g : Stage) (s : Model) (at : ℕ) (r : List ℕ) → next-stage g letter-T ≡ Some Charges → next-stage g letter-F ≡ Some Charges → IsCharge r → on-record (at-stage g s) at r ≡ Ok (at-stage Charges s)
-charge-taken g s at r t f (inl i) =
-    sym (as-kind letter-T g s at r (i .of-kind))
-    ∙ ap (λ o. judged at o (filled-as letter-T r) (Ok s)) t
-    ∙ ap (λ b. cond b (Ok (at-stage Charges s)) (Err (no.RecordContent at))) (T-filled r i)
-charge-taken g s at r t f (inr i) =
-    sym (as-kind letter-F g s at r (i .of-kind))
-    ∙ ap (λ o. judged at o (filled-as letter-F r) (Ok s)) f
-    ∙ ap (λ b. cond b (Ok (at-stage Charges s)) (Err (no.RecordContent at))) (F-filled r i)
+charge-taken g s at r t f (inl i) = charging letter-T g s at r (i .of-kind) t refl (T-filled r i)
+charge-taken g s at r t f (inr i) = charging letter-F g s at r (i .of-kind) f refl (F-filled r i)

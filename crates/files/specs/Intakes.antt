@@ -1,7 +1,7 @@
 -- The intake: the study that a file makes, or the first question that fails.
 use mathlib.Core.Path.{_≡_}
 use mathlib.Core.List.{List, [], _∷_}
-use mathlib.Core.Bool.{Bool, cond, _&&_, _||_}
+use mathlib.Core.Bool.{Bool, true, cond, _&&_, _||_}
 use Prim.Native.Nat.{ℕ, _+_, _%_}
 use lib.Dec.{eqb, leb}
 use lib.ListN.{length}
@@ -89,8 +89,9 @@ abbrev pub leaving : {A : Type 0} → Result Unit Refusal → A → Result A Ref
 leaving (Ok x) s = Ok s
 leaving (Err why) s = Err why
 
--- an intake of a file: an accepted file replaces the study, a refused one and want of memory leave it
+-- an intake of a file: an accepted file replaces the study, a refused one and want of memory leave it; a file of another
+-- length is refused whatever the memory
 abbrev pub TakenIn : List ℕ → Model → Result Unit IntakeError → Model → Type 0
 TakenIn file before (Ok x) after = taken-in file ≡ Ok after
 TakenIn file before (Err (Refused why)) after = (taken-in file ≡ Err why) × (after ≡ before)
-TakenIn file before (Err OutOfMemory) after = after ≡ before
+TakenIn file before (Err OutOfMemory) after = (is-length (length file) ≡ true) × (after ≡ before)

@@ -1,4 +1,9 @@
--- A study file: records of 24 bytes, and what stands in each. A byte is a number, and bytes are counted from 0.
+-- A study file: records of 24 bytes without a header, and what stands in each. Bytes are counted from 0; byte 0 is the kind
+-- letter; numbers are big-endian; bytes that a kind does not use are 0.
+--   N  1 echelons, 2 resources
+--   C  1 number, 2 parent, 3 to 5 the needs of D, R and M, 8 to 11 rate
+--   T  1 component, 2 echelon, 3 option letter, 8 to 15 signed cents, 16 to 23 minutes
+--   F  1 resource, 2 echelon, 8 to 15 signed cents, 16 to 23 minutes
 use mathlib.Core.List.{List, map}
 use mathlib.Core.Bool.{Bool, true, cond, _&&_}
 use Prim.Native.Nat.{ℕ, zero, suc, _+_, _*_, _/_}
