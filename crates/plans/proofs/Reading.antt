@@ -36,7 +36,7 @@ abbrev pub DecidedBefore : Model → List ℕ → ℕ → Type 0
 DecidedBefore s plan n = (j : ℕ) → j < n → 1 ≤ byte plan j → (a : ℕ) × Starts s plan j a
 
 -- a parent is entered before its component
-parent-before : (s : Model) (i p : ℕ) → Limits s → i < count s → parent s i ≡ Some p → p < i
+pub parent-before : (s : Model) (i p : ℕ) → Limits s → i < count s → parent s i ≡ Some p → p < i
 parent-before s i p limits l e = ltb-true p i (sym (ap (is-entered i) e) ∙ limits .sound-rows i l .0)
 
 read-under :

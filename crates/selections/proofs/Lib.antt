@@ -1,0 +1,12 @@
+pub mod Telling
+pub mod Described
+pub mod Chosen
+pub mod Routes
+pub mod Bytes
+pub mod Encoded
+pub mod Alike
+pub mod SameCosts
+pub mod SelectedOnce
+pub mod Twofold
+pub mod Listed
+pub mod Worked

@@ -1,0 +1,4 @@
+pub mod Selections
+pub mod Costs
+pub mod Laws
+pub mod Examples
