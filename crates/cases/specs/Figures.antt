@@ -8,24 +8,26 @@ use Rattle.std.specs.declared.result.Result.{Result}
 use Rattle.std.specs.declared.result.Result.the-variants.{Ok, Err}
 use Rattle.costs.specs.Amounts.{money}
 use Rattle.model.specs.declared.refusal.Refusal.{Refusal}
-use Rattle.model.specs.declared.refusal.Refusal.the-variants.{ByteTooLarge, ReachMismatch, BeforeStart, OptionClosed}
+use Rattle.model.specs.declared.refusal.Refusal.the-variants.{ByteTooLarge, ReachMismatch, BeforeStart, OptionClosed, ResourceClosed}
 use Rattle.model.specs.Books.{Book}
 use Rattle.model.specs.Studies.{Model}
 use Rattle.plans.specs.Prices.{priced}
-use Rattle.cases.specs.StudyX.{study-x, book-x}
+use Rattle.books.specs.declared.price_row.PriceRow.{PriceRow}
+use Rattle.books.specs.Gross.{gross}
+use Rattle.cases.specs.StudyX.{study-x, book-x, book-x-ruled}
+use Rattle.cases.specs.Chain.{chain}
 
--- a plan for a study and a book, and what pricing it by money answers
-pub record Figure : Type 0 where
-  pub study : Model
-  pub book : Book
-  pub plan : List ℕ
-  pub answer : Result ℤ Refusal
+-- what pricing a plan by money answers for a study and a book, or the gross price of a row of a price book
+pub data Figure : Type 0 where
+  prices : Model → Book → List ℕ → Result ℤ Refusal → Figure
+  has-gross : List PriceRow → ℕ → ℕ → Figure
 
 abbrev pub Follows : Figure → Type 0
-Follows f = priced money (f .study) (f .book) (f .plan) ≡ f .answer
+Follows (prices study book plan answer) = priced money study book plan ≡ answer
+Follows (has-gross rows row price) = gross rows row ≡ price
 
 abbrev of-x : List ℕ → Result ℤ Refusal → Figure
-of-x plan answer = record { study = study-x; book = book-x; plan = plan; answer = answer }
+of-x plan answer = prices study-x book-x plan answer
 
 abbrev pub figures : List Figure
 figures =
@@ -35,6 +37,8 @@ figures =
     ∷ of-x (1 ∷ 1 ∷ []) (Err (ReachMismatch 1))
     ∷ of-x (4 ∷ 1 ∷ []) (Err (BeforeStart 1))
     ∷ of-x (5 ∷ 0 ∷ []) (Err (ByteTooLarge 0))
+    ∷ prices study-x book-x-ruled (4 ∷ 4 ∷ []) (Err (ResourceClosed 0))
+    ∷ has-gross chain 0 150
     ∷ []
 
 abbrev pub FiguresFollow : Type 0

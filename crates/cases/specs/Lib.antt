@@ -1,2 +1,3 @@
 pub mod StudyX
+pub mod Chain
 pub mod Figures

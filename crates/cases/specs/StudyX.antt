@@ -14,6 +14,8 @@ use Rattle.model.specs.declared.answer.Answer.{Answer}
 use Rattle.model.specs.declared.answer.Answer.the-variants.{Charged, Barred}
 use Rattle.model.specs.Books.{Book}
 use Rattle.model.specs.Studies.{Model}
+use Rattle.books.specs.Marks.{no-marks, on-bar}
+use Rattle.books.specs.Rulings.{ruled}
 
 abbrev no-needs : Needs
 no-needs = record { discard = 0; repair = 0; moving = 0 }
@@ -47,3 +49,7 @@ option-x i e Move = by-component i (by-echelon e (charge 10 0) Barred) (by-echel
 abbrev pub book-x : Book
 book-x (OfOption i e o) = option-x i e o
 book-x (OfResource r e) = cond (eqb r 0) (by-echelon e (charge 300 0) (charge 100 0)) Barred
+
+-- the same book under a ruling that bars the resource at echelon 2
+abbrev pub book-x-ruled : Book
+book-x-ruled = ruled (on-bar no-marks (OfResource 0 2) .1) book-x

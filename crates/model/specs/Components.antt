@@ -43,6 +43,10 @@ is-entered n (Some p) = ltb p n
 abbrev pub no-component : Component
 no-component = record { parent = None; level = 1; needs = record { discard = 0; repair = 0; moving = 0 }; rate = 1 }
 
+-- a component with other needs
+abbrev pub with-needs : Component → Needs → Component
+with-needs c n = record { parent = c .parent; level = c .level; needs = n; rate = c .rate }
+
 -- the indenture level of a component with that parent: 1 at the top, else one deeper than the parent
 abbrev pub level-under : List Component → Option ℕ → ℕ
 level-under cs None = 1

@@ -4,7 +4,7 @@ use mathlib.Core.List.{List, [], _∷_, _++_}
 use mathlib.Core.Bool.{Bool, cond, _&&_}
 use Prim.Native.Nat.{ℕ, _-_, _*_, _≤_}
 use lib.Dec.{ltb, leb}
-use lib.ListN.{length, take}
+use lib.ListN.{length, getD, set, take}
 use Rattle.std.specs.declared.result.Result.{Result}
 use Rattle.std.specs.declared.result.Result.the-variants.{Ok, Err}
 use Rattle.std.specs.Of.Vec.{vec-items}
@@ -13,7 +13,7 @@ use Rattle.model.specs.declared.component.Needs.{Needs}
 use Rattle.model.specs.declared.refusal.Refusal.{Refusal}
 use Rattle.model.specs.declared.refusal.Refusal.the-variants as no
 use Rattle.model.specs.declared.study.Study.{Study}
-use Rattle.model.specs.Components.{names-below, is-rate, parent-of, is-entered, level-under, Rows}
+use Rattle.model.specs.Components.{names-below, is-rate, parent-of, is-entered, level-under, no-component, with-needs, Rows}
 
 -- echelons are numbered from 1 at the operating sites, resources and components from 0 in their order
 pub record Model : Type 0 where
@@ -65,6 +65,14 @@ on-enter s p n f =
     (ask s (names-below (s .resources) n) no.UnknownResource
     (ask s (is-rate f) no.RateOutOfRange
     (Ok (length (s .components)), record { echelons = s .echelons; resources = s .resources; components = s .components ++ entered s p n f ∷ [] })))))
+
+-- require: is the component entered? do the needs name only resources of the study? Then that component has these needs,
+-- and all else stays
+abbrev pub on-require : Model → ℕ → Needs → Outcome Unit
+on-require s i n =
+    ask s (ltb i (length (s .components))) no.UnknownComponent
+    (ask s (names-below (s .resources) n) no.UnknownResource
+    (Ok tt, record { echelons = s .echelons; resources = s .resources; components = set (s .components) i (with-needs (getD (s .components) i no-component) n) }))
 
 -- strike: is there a component?
 abbrev pub on-strike : Model → Outcome Unit

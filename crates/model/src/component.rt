@@ -1,7 +1,7 @@
 // A component, as it was entered.
 ghost use mathlib.Core.Path.{_≡_};
 ghost use Prim.Native.Nat.{_≤_};
-ghost use Rattle.model.specs.Components.{need, needs-resource, names-below};
+ghost use Rattle.model.specs.Components.{need, needs-resource, names-below, parent-of, is-entered};
 use crate::question::RepairOption;
 
 // The resources that each option needs: bit r of a mask, counted from the lowest, is set where resource r is needed.
@@ -20,6 +20,30 @@ pub struct Component {
     pub level: u8,
     pub needs: Needs,
     pub rate: u32,
+}
+
+// The number that marks a component without a parent.
+const NO_PARENT: u8 = 255;
+
+// The parent that a number names: none for 255.
+pub fn parent_of(number: u8) -> Option<u8>
+    ensures { λ r. ⌜ r ≡ parent-of number ⌝ }
+{
+    if number == NO_PARENT {
+        None
+    } else {
+        Some(number)
+    }
+}
+
+// Whether there is no parent, or the parent is one of the first `count` that were entered.
+pub fn is_entered(count: usize, parent: Option<u8>) -> bool
+    ensures { λ r. ⌜ r ≡ is-entered count parent ⌝ }
+{
+    match parent {
+        None => true,
+        Some(number) => usize::from(number) < count,
+    }
 }
 
 impl Needs {

@@ -3,29 +3,17 @@ ghost use mathlib.Core.Path.{_≡_};
 ghost use mathlib.Core.Bool.{true};
 ghost use Rattle.std.specs.Vec.{made};
 ghost use Rattle.std.specs.Of.Vec.{vec-len, vec-items};
-ghost use Rattle.model.specs.Components.{parent-of, is-entered, level-under};
-ghost use Rattle.model.specs.Studies.{model, blank-study, on-open, on-enter, on-strike};
+ghost use Rattle.model.specs.Components.{is-entered, level-under};
+ghost use Rattle.model.specs.Studies.{model, blank-study, on-open, on-enter, on-require, on-strike};
 use super::Study;
 use crate::component::Component;
 use crate::component::Needs;
+use crate::component::is_entered;
+use crate::component::parent_of;
 use crate::refusal::Refusal;
 use crate::table::Table;
 use std::alloc::AllocError;
 use std::alloc::Global;
-
-// The number that marks a component without a parent.
-const NO_PARENT: u8 = 255;
-
-// The parent that a number names: none for 255.
-fn parent_of(number: u8) -> Option<u8>
-    ensures { λ r. ⌜ r ≡ parent-of number ⌝ }
-{
-    if number == NO_PARENT {
-        None
-    } else {
-        Some(number)
-    }
-}
 
 impl Study {
     // A study of one echelon, with no resource and no component.
@@ -65,7 +53,7 @@ impl Study {
             return Err(Refusal::StudyFull);
         }
         let parent = parent_of(parent);
-        if !self.is_entered(parent) {
+        if !is_entered(number, parent) {
             return Err(Refusal::UnknownParent);
         }
         let level = self.level_under(parent);
@@ -87,6 +75,21 @@ impl Study {
         Ok(number as u8)
     }
 
+    // Replaces the needs of one component, all three at once.
+    pub fn require(&mut self, component: u8, needs: Needs) -> Result<(), Refusal>
+        ensures { λ r. ⌜ (r, model (now (self .exit))) ≡ on-require (model (now (self .entry))) component needs ⌝ }
+    {
+        let number = usize::from(component);
+        if number >= self.table.rows.len() {
+            return Err(Refusal::UnknownComponent);
+        }
+        if !needs.names_below(self.resources) {
+            return Err(Refusal::UnknownResource);
+        }
+        self.table.row(number).needs = needs;
+        Ok(())
+    }
+
     // Removes the component that was entered last.
     pub fn strike(&mut self) -> Result<(), Refusal>
         ensures { λ r. ⌜ (r, model (now (self .exit))) ≡ on-strike (model (now (self .entry))) ⌝ }
@@ -94,16 +97,6 @@ impl Study {
         match self.table.rows.pop() {
             None => Err(Refusal::NoComponent),
             Some(_) => Ok(()),
-        }
-    }
-
-    // Whether there is no parent, or the parent is entered.
-    fn is_entered(&self, parent: Option<u8>) -> bool
-        ensures { λ r. ⌜ r ≡ is-entered (vec-len (now (self .entry) .table .rows)) parent ⌝ }
-    {
-        match parent {
-            None => true,
-            Some(number) => usize::from(number) < self.table.rows.len(),
         }
     }
 

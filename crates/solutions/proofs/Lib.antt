@@ -1,0 +1,15 @@
+pub mod Proper
+pub mod Lists
+pub mod Amounts
+pub mod Used
+pub mod Routed
+pub mod Needing
+pub mod Options
+pub mod PairAmounts
+pub mod Passing
+pub mod Judging
+pub mod Bytes
+pub mod Least
+pub mod Answering
+pub mod Found
+pub mod Promised

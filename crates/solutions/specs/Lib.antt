@@ -1,0 +1,4 @@
+pub mod Pairs
+pub mod Problems
+pub mod Solved
+pub mod Promises

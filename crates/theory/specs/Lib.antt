@@ -1,0 +1,16 @@
+pub mod Entries
+pub mod Amounts
+pub mod Places
+pub mod Ranks
+pub mod Options
+pub mod Choices
+pub mod Breakdowns
+pub mod Tables
+pub mod Needs
+pub mod Marks
+pub mod Searches
+pub mod ReadingOrder
+pub mod Answers
+pub mod Problems
+pub mod Rules
+pub mod Laws
