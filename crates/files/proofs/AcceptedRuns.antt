@@ -22,14 +22,14 @@ use Rattle.files.proofs.Outcomes.{same-ok, ok-then, ok-test, opened-empty, ent
 use Rattle.files.proofs.Steps.{at-stage, IsCharge, opening-step, components-step, charges-step, opening-taken, component-taken, charge-taken}
 
 -- numbered k, k + 1, k + 2, ..
-abbrev NumberedFrom : ℕ → List (List ℕ) → Type 0
+abbrev pub NumberedFrom : ℕ → List (List ℕ) → Type 0
 NumberedFrom k rs = (i : ℕ) → i < length rs → byte (getD rs i []) 1 ≡ k + i
 
 numbered-more : (k : ℕ) (r : List ℕ) (rs : List (List ℕ)) → byte r 1 ≡ k → NumberedFrom (k + 1) rs → NumberedFrom k (r ∷ rs)
 numbered-more k r rs e more zero l = omega arith
 numbered-more k r rs e more (suc i) l = omega (arith, more i (omega arith))
 
-numbered-rest : (k : ℕ) (r : List ℕ) (rs : List (List ℕ)) → NumberedFrom k (r ∷ rs) → NumberedFrom (k + 1) rs
+pub numbered-rest : (k : ℕ) (r : List ℕ) (rs : List (List ℕ)) → NumberedFrom k (r ∷ rs) → NumberedFrom (k + 1) rs
 numbered-rest k r rs all i l = omega (arith, all (suc i) (omega arith))
 
 -- a record came to t, and the others go on from t

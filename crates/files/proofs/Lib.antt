@@ -8,3 +8,10 @@ pub mod Outcomes
 pub mod RecordKinds
 pub mod Steps
 pub mod AcceptedRuns
+pub mod RecordRows
+pub mod Placing
+pub mod WrittenRecords
+pub mod Encodings
+pub mod Calls
+pub mod StudyRoundTrip
+pub mod FileRoundTrip

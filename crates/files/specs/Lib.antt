@@ -4,3 +4,5 @@ pub mod TableLimits
 pub mod FoundCharges
 pub mod Intakes
 pub mod AcceptedFiles
+pub mod Writes
+pub mod RoundTrips
