@@ -17,6 +17,7 @@ use planning::price::price;
 use reports::refusal_line::refusal_line;
 use std::alloc::Global;
 use std::error::AnyError;
+use std::io::Write;
 
 // What was made, or an error where the call was refused.
 fn accepted<T>(answer: Result<T, Refusal>) -> Result<T, AnyError> {
@@ -63,7 +64,7 @@ fn show<B: ChargeBook>(
         Ok(cents) => println!(rt, "total {cents}")?,
         Err(why) => {
             let line = refusal_line(rt.alloc(), &why)?;
-            print!(rt, "{line}")?;
+            rt.stdout().write_all(line.as_slice())?;
         }
     }
     Ok(())

@@ -23,11 +23,11 @@ use Rattle.planning.specs.Surveys.{no-choices, option-row, resource-row, choic
 use Rattle.planning.specs.Sums.{if-used, at-echelon, of-component, of-resource, used-postings}
 
 -- f at echelon e, nothing past the last
-abbrev shown : {A : Type 0} → ℕ → (ℕ → List A) → ℕ → List A
+abbrev pub shown : {A : Type 0} → ℕ → (ℕ → List A) → ℕ → List A
 shown last f e = cond (leb e last) (f e) []
 
 -- the echelons from 1 to the last are the first four, with nothing past the last
-upto-four : {A : Type 0} (f : ℕ → List A) (last : ℕ) → last ≤ 4 → upto (λ k. f (suc k)) last ≡ shown last f 1 ++ (shown last f 2 ++ (shown last f 3 ++ shown last f 4))
+pub upto-four : {A : Type 0} (f : ℕ → List A) (last : ℕ) → last ≤ 4 → upto (λ k. f (suc k)) last ≡ shown last f 1 ++ (shown last f 2 ++ (shown last f 3 ++ shown last f 4))
 upto-four f zero h = refl
 upto-four f (suc zero) h = sym (append-nil (f 1))
 upto-four f (suc (suc zero)) h = ap (λ xs. f 1 ++ xs) (sym (append-nil (f 2)))
@@ -36,7 +36,7 @@ upto-four f (suc (suc (suc (suc zero)))) h = append-assoc (f 1 ++ f 2) (f 3) (f 
 upto-four f (suc (suc (suc (suc (suc n))))) h = absurd (omega arith)
 
 -- what is not open adds nothing
-if-used-none : (t : Bool) → if-used t None ≡ []
+pub if-used-none : (t : Bool) → if-used t None ≡ []
 if-used-none true = refl
 if-used-none false = refl
 

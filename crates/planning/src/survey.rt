@@ -180,11 +180,10 @@ fn resource_rows<B: ChargeBook>(study: &Study, book: &B) -> Result<[ResourceRow;
 }
 
 // Asks every question of the study: first for the options, then for the resources.
-pub(crate) fn survey<B: ChargeBook>(study: &Study, book: &B) -> Result<Survey, Fault>
+pub fn survey<B: ChargeBook>(study: &Study, book: &B) -> Result<Survey, Fault>
     ensures { λ r. ⌜ Surveyed (model (now (study .entry))) (meaning (now (book .entry))) r ⌝ }
 {
-    Ok(Survey {
-        options: option_rows(study, book)?,
-        resources: resource_rows(study, book)?,
-    })
+    let options = option_rows(study, book)?;
+    let resources = resource_rows(study, book)?;
+    Ok(Survey { options, resources })
 }

@@ -122,7 +122,7 @@ fn plus_resource<K: CostKind>(
 }
 
 // Whether some component needs the resource at that echelon.
-fn is_needed(study: &Study, plan: &[u8], resource: u8, echelon: u8) -> bool
+pub fn is_needed(study: &Study, plan: &[u8], resource: u8, echelon: u8) -> bool
     ensures { λ r. ⌜ r ≡ uses (model (now (study .entry))) (now (plan .entry)) (OfResource resource echelon) ⌝ }
 {
     for (number, component) in study.components().iter().enumerate() {
@@ -135,7 +135,7 @@ fn is_needed(study: &Study, plan: &[u8], resource: u8, echelon: u8) -> bool
 }
 
 // Adds the posting of what is used, where it is open.
-fn plus_used<K: CostKind>(
+pub fn plus_used<K: CostKind>(
     kind: &K,
     sum: Option<K::Cost>,
     used: bool,

@@ -1,11 +1,10 @@
 // quote: prices a plan for a study file. `quote BYTE.. < FILE`
-mod quotation;
-
-use quotation::Quotation;
-use quotation::quote_plan;
+use printing::printed::Printed;
+use printing::quotation::quote_plan;
 use std::env;
 use std::error::AnyError;
 use std::io::Read;
+use std::io::Write;
 
 // One byte more than the longest study file, so that a longer one is seen and refused, not cut.
 const MOST_READ: u64 = 65_521;
@@ -36,12 +35,12 @@ fn main(rt: LibcRuntime) -> Result<(), AnyError> {
     let mut file = Vec::new(rt.alloc());
     rt.stdin().take(MOST_READ).read_to_end(&mut file)?;
     match quote_plan(rt.alloc(), file.as_slice(), plan.as_slice())? {
-        Quotation::Priced(text) => {
-            print!(rt, "{text}")?;
+        Printed::Report(text) => {
+            rt.stdout().write_all(text.as_slice())?;
             Ok(())
         }
-        Quotation::Refused(line) => {
-            print!(rt, "{line}")?;
+        Printed::Refusal(line) => {
+            rt.stdout().write_all(line.as_slice())?;
             Err("the plan or the file is refused".into())
         }
     }

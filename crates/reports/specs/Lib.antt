@@ -1,1 +1,10 @@
+pub mod LineEnds
+pub mod LineLaws
+pub mod LineOrder
 pub mod Lines
+pub mod NextUnder
+pub mod OrderLaws
+pub mod Places
+pub mod RefusalBytes
+pub mod RefusalLaws
+pub mod Reports

@@ -4,7 +4,6 @@ use mathlib.Core.List.{List, [], _∷_, _++_}
 use Prim.Native.Nat.{ℕ}
 use lib.Dec.{eqb}
 use lib.IntN.{ℤ}
-use lib.ListN.{length}
 use lib.Chars.{codes}
 use lib.Utf8.{encode}
 use Rattle.std.specs.Written.{decimal, signed}
@@ -12,8 +11,6 @@ use Rattle.std.specs.declared.option.Option.{Option}
 use Rattle.std.specs.declared.option.Option.the-variants.{Some, None}
 use Rattle.model.specs.declared.refusal.Refusal.{Refusal}
 use Rattle.model.specs.Refusals.{Word, num, sign, said}
-use Rattle.plans.specs.Ranges.{upto}
-use Rattle.plans.specs.Starts.{byte}
 use Rattle.planning.specs.Decisions.{decided}
 
 -- words, each after a blank: a number in decimal digits, or a character; and what follows them
@@ -33,7 +30,7 @@ choice-letter o = cond (eqb o 0) 68 82
 -- what a byte decides, D or R with the echelon, or `-` where it decides nothing; and what follows
 abbrev pub decision-text : Option (ℕ × ℕ) → List ℕ → List ℕ
 decision-text None rest = codes "-" ++ rest
-decision-text (Some d) rest = encode (choice-letter (d .1)) ++ (decimal (d .0) ++ rest)
+decision-text (Some d) rest = choice-letter (d .1) ∷ (decimal (d .0) ++ rest)
 
 -- the line of a component: its number, a blank, and what its byte decides
 abbrev pub component-line : ℕ → ℕ → List ℕ
@@ -42,7 +39,3 @@ component-line i b = decimal i ++ (codes " " ++ decision-text (decided b) (codes
 -- `total`, a blank and the money in cents
 abbrev pub total-line : ℤ → List ℕ
 total-line cents = codes "total " ++ (signed cents ++ codes "\n")
-
--- a line for each component in the order of their numbers, and the total
-abbrev pub plan-text : List ℕ → ℤ → List ℕ
-plan-text plan cents = upto (λ i. component-line i (byte plan i)) (length plan) ++ total-line cents

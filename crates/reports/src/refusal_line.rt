@@ -1,98 +1,46 @@
 // The refusal line: `refused`, the number of the question that failed, and what the refusal carries.
-ghost use lib.Chars.{codes};
 ghost use mathlib.Core.Path.{_≡_};
-ghost use Rattle.std.specs.Of.String.{string-bytes};
+ghost use Prim.Native.Nat.{_≤_};
+ghost use lib.ListN.{length};
+ghost use Rattle.std.specs.Of.Vec.{vec-items};
 ghost use Rattle.std.specs.Vec.{made};
-ghost use Rattle.model.specs.declared.refusal.Refusal.the-variants.{BookFault};
-ghost use Rattle.model.specs.Refusals.{cause-number, subject, at-echelon, option-letter, asked};
-ghost use Rattle.reports.specs.Lines.{words, refusal-line};
-use model::answer::Cause;
-use model::answer::Fault;
-use model::question::Question;
+ghost use Rattle.reports.specs.Lines.{refusal-line};
+ghost use Rattle.reports.specs.Places.{Puts};
+ghost use Rattle.reports.specs.RefusalBytes.{in-40-bytes};
+use crate::carried::put_carried;
+use crate::place::put_bytes;
+use crate::place::put_number;
 use model::refusal::Refusal;
 use std::alloc::AllocError;
 use std::alloc::Global;
 
+// Puts the line at the front of a place of 40 bytes, and answers where it ends.
+fn put_refusal(place: &mut [u8], refusal: &Refusal) -> usize
+    requires { ⌜ 40 ≤ length (now place) ⌝ }
+    ensures puts { λ r. ⌜ Puts (now (place .entry)) 0 (refusal-line (now (refusal .entry))) r (now (place .exit)) ⌝ }
+    ensures few { λ r. ⌜ r ≤ 40 ⌝ }
+{
+    let number = put_bytes(place, 0, b"refused ");
+    let carried = put_number(place, number, u64::from(refusal.number()));
+    let end = put_carried(place, carried, refusal);
+    put_bytes(place, end, b"\n")
+}
+
+// The line of a refusal as 40 bytes, with byte 10 at its end and zeros after that.
+pub fn refusal_bytes(refusal: &Refusal) -> [u8; 40]
+    ensures line { λ r. ⌜ r ≡ in-40-bytes (refusal-line (now (refusal .entry))) ⌝ }
+    ensures fits { λ _. ⌜ length (refusal-line (now (refusal .entry))) ≤ 40 ⌝ }
+{
+    let mut line = [0; 40];
+    let _end = put_refusal(&mut line, refusal);
+    line
+}
+
 // The line of a refusal, with byte 10 at its end.
-pub fn refusal_line(heap: Global, refusal: &Refusal) -> Result<String, AllocError>
-    ensures { λ r. ⌜ made r (λ t. string-bytes t ≡ refusal-line (now (refusal .entry))) ⌝ }
+pub fn refusal_line(heap: Global, refusal: &Refusal) -> Result<Vec<u8>, AllocError>
+    ensures { λ r. ⌜ made r (λ line. vec-items line ≡ refusal-line (now (refusal .entry))) ⌝ }
 {
-    let number = refusal.number();
-    match refusal {
-        Refusal::BookFault(fault) => fault_line(heap, number, fault),
-        Refusal::ByteTooLarge { component }
-        | Refusal::ReachMismatch { component }
-        | Refusal::BeforeStart { component }
-        | Refusal::OptionClosed { component }
-        | Refusal::ResourceClosed { component } => format!(heap, "refused {number} {component}\n"),
-        Refusal::RecordKind { record }
-        | Refusal::RecordContent { record }
-        | Refusal::ComponentNumber { record } => format!(heap, "refused {number} {record}\n"),
-        Refusal::RecordRefused {
-            record,
-            number: study,
-        } => format!(heap, "refused {number} {record} {study}\n"),
-        _ => format!(heap, "refused {number}\n"),
-    }
-}
-
-// The number of a fault's cause.
-fn cause_number(cause: Cause) -> u8
-    ensures { λ r. ⌜ r ≡ cause-number cause ⌝ }
-{
-    match cause {
-        Cause::BeyondLimits => 1,
-        Cause::EnteredTwice => 2,
-    }
-}
-
-// The component or the resource that a question asks about.
-fn subject_of(question: Question) -> u8
-    ensures { λ r. ⌜ r ≡ subject question ⌝ }
-{
-    match question {
-        Question::OfOption { component, .. } => component,
-        Question::OfResource { resource, .. } => resource,
-    }
-}
-
-// The echelon that a question asks about.
-fn echelon_of(question: Question) -> u8
-    ensures { λ r. ⌜ r ≡ at-echelon question ⌝ }
-{
-    match question {
-        Question::OfOption { echelon, .. } => echelon,
-        Question::OfResource { echelon, .. } => echelon,
-    }
-}
-
-// The letter of the option that a question asks about, or F for a resource.
-fn letter_of(question: Question) -> char
-    ensures { λ r. ⌜ r ≡ option-letter question ⌝ }
-{
-    match question {
-        Question::OfOption { option, .. } => option.letter(),
-        Question::OfResource { .. } => 'F',
-    }
-}
-
-// The end of a fault's line: what the question asks about.
-fn asked_text(heap: Global, question: Question) -> Result<String, AllocError>
-    ensures { λ r. ⌜ made r (λ t. string-bytes t ≡ words (asked question) (codes "\n")) ⌝ }
-{
-    let subject = subject_of(question);
-    let echelon = echelon_of(question);
-    let letter = letter_of(question);
-    format!(heap, " {subject} {echelon} {letter}\n")
-}
-
-// The line of a fault of a book, with the question that it could not answer.
-fn fault_line(heap: Global, number: u8, fault: &Fault) -> Result<String, AllocError>
-    ensures { λ r. ⌜ (number ≡ 12 → made r (λ t. string-bytes t ≡ refusal-line (BookFault (now (fault .entry))))) ⌝ }
-{
-    let cause = cause_number(fault.cause);
-    let book = fault.letter;
-    let height = fault.height;
-    let asked = asked_text(heap, fault.question)?;
-    format!(heap, "refused {number} {cause} {book} {height}{asked}")
+    let mut line = [0; 40];
+    let end = put_refusal(&mut line, refusal);
+    line[0..end].to_vec(heap)
 }

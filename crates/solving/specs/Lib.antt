@@ -1,0 +1,9 @@
+pub mod Marked
+pub mod Finds
+pub mod Sums
+pub mod Allowed
+pub mod Working
+pub mod Steps
+pub mod Bounds
+pub mod Chosen
+pub mod Least
