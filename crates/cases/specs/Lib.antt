@@ -1,3 +1,4 @@
 pub mod StudyX
 pub mod Chain
+pub mod OnePart
 pub mod Figures
