@@ -1,10 +1,10 @@
 -- The three kinds keep the four laws.
-use Rattle.std.specs.Prelude.{ℕ, int_lt}
+use Rattle.std.specs.Prelude.{int_lt}
 use Rattle.std.proofs.Common.{arith}
 use Rattle.std.proofs.lemmas.Int.{ints}
 use Rattle.std.proofs.lemmas.Bool.Decides.{nat_tests}
 use Rattle.costs.specs.Kinds.{Laws}
-use Rattle.costs.specs.Amounts.{money, totals, both, cheaper, sooner}
+use Rattle.costs.specs.Amounts.{money, totals, cheaper, sooner}
 use Rattle.costs.specs.Sizes.{same_total}
 
 pub money_laws : Laws money int_lt

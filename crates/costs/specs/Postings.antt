@@ -1,5 +1,5 @@
 -- The limits of a posting, and how many postings a sum may have.
-use Rattle.std.specs.Prelude.{ℕ, ◌≤◌, ℤ, pos, neg_ℤ, ◌≤ℤ◌}
+use Rattle.std.specs.Prelude.{ℕ, ◌≤◌, pos, neg_ℤ, ◌≤ℤ◌}
 use Rattle.costs.specs.declared.posting.Posting.{Posting}
 
 -- the most cents that one posting has, above or below zero

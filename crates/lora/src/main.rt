@@ -1,4 +1,5 @@
 // lora: finds the least plan for a study file, first in reading order.
+#![tactic(auto)]
 use anyhow::anyhow;
 use printing::printed::Printed;
 use printing::solution::solve_file;

@@ -1,5 +1,5 @@
 -- Charge books: what a book answers to each question, and the limits of the charges.
-use Rattle.std.specs.Prelude.{ℕ, ◌≤◌, pos, neg_ℤ, ◌≤ℤ◌}
+use Rattle.std.specs.Prelude.{◌≤◌, pos, neg_ℤ, ◌≤ℤ◌}
 use Rattle.model.specs.declared.question.Question.{Question}
 use Rattle.model.specs.declared.question.Question.TheVariants.{OfOption, OfResource}
 use Rattle.model.specs.declared.answer.Answer.{Answer}

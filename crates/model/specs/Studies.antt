@@ -1,5 +1,5 @@
 -- A study as its caller knows it, its limits, and what each call answers and leaves.
-use Rattle.std.specs.Prelude.{◌≡◌, ℕ, ◌-◌, ◌*◌, ◌≤◌, Bool, cond, ◌&&◌, List, [], ◌∷◌, ◌++◌, length, take, Ok, Err, vec_items, Result, nat_le, nat_lt, slice_index_or, slice_set}
+use Rattle.std.specs.Prelude.{ℕ, ◌-◌, ◌*◌, ◌≤◌, Bool, cond, ◌&&◌, List, [], ◌∷◌, ◌++◌, length, take, Ok, Err, vec_items, Result, nat_le, nat_lt, slice_index_or, slice_set}
 use Rattle.model.specs.declared.component.Component.{Component}
 use Rattle.model.specs.declared.component.Needs.{Needs}
 use Rattle.model.specs.declared.refusal.Refusal.{Refusal}

@@ -1,4 +1,6 @@
 // The study and what it is made of: components, questions and answers, the trait of charge books, refusals.
+#![tactic(auto)]
+
 pub mod answer;
 pub mod book;
 pub mod component;

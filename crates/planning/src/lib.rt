@@ -1,4 +1,5 @@
 // Planning: the survey of a book, the decision of a byte, and the price of a plan.
+#![tactic(auto)]
 mod checks;
 pub mod decision;
 pub mod laws;

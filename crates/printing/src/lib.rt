@@ -1,4 +1,5 @@
 // What the programs print, made from the bytes of a study file.
+#![tactic(auto)]
 pub mod printed;
 pub mod quotation;
 pub mod solution;

@@ -1,4 +1,5 @@
 // What the programs print: the report of a plan and the refusal line.
+#![tactic(auto)]
 mod carried;
 pub mod laws;
 mod line;

@@ -1,4 +1,5 @@
 // session: makes a list of calls on a new blank study, one after another, and prints what each answered.
+#![tactic(auto)]
 mod answers;
 mod script;
 

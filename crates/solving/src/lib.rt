@@ -1,4 +1,5 @@
 // Solving: the least plan, first in reading order.
+#![tactic(auto)]
 mod allowed;
 mod best;
 mod bound;

@@ -10,6 +10,6 @@ returns c m n p q h =
     let fits : SFits w64 (c.args.a +ℤ c.args.b) = omega (arith, ints, a.0, a.1, b.0, b.1) in
     let fa = c.ranges.a in
     let fb = c.ranges.b in
-    let e = simp to_z-of_z at c.saturating-add.ensures in
+    let e = simp to_z-of_z at c.saturating_add.ensures in
     let f = e ∙ unsaturated _ fits in
     omega (arith, ints, f)

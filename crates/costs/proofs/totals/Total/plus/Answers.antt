@@ -10,5 +10,5 @@ returns c m n p q h =
     let fits : SFits w64 (c.args.self.cents +ℤ c.args.other.cents) = omega (arith, ints, a.0.0, a.0.1, b.0.0, b.0.1) in
     let fa : SFits w64 c.args.self.cents = search rules in
     let fb : SFits w64 c.args.other.cents = search rules in
-    let f = simp to_z-of_z at c.saturating-add.ensures ∙ unsaturated _ fits in
-    same_total _ _ (omega (arith, ints, f)) (omega (arith, c.saturating-add-2.ensures, a.1, b.1))
+    let f = simp to_z-of_z at c.saturating_add.ensures ∙ unsaturated _ fits in
+    same_total _ _ (omega (arith, ints, f)) (omega (arith, c.saturating_add-2.ensures, a.1, b.1))

@@ -4,14 +4,14 @@ use Rattle.model.specs.Components.{is_rate, is_entered, Rows}
 use Rattle.model.proofs.Rowwise.{rows_push}
 use Rattle.model.proofs.study.Study.enter.Goals as goal
 
-pub invariant-of-self : goal.invariant-of-self
-invariant-of-self c =
+pub invariant_of-self : goal.invariant_of-self
+invariant_of-self c =
     let s = c.args.self.now in
     let xs = s.table.rows.items in
     let ok = s.table.rows.ok.0 in
-    let parent = c.parent-of-parent.result in
+    let parent = c.parent_of-parent.result in
     let known : is_entered (length xs) parent ≡ true = search rules in
     let fair : is_rate c.args.rate ≡ true = search rules in
-    let row : Component = record { parent = parent; level = c.level-under-level.result; needs = c.args.needs; rate = c.args.rate } in
-    let kept = rows_push s.resources xs row s.rows (known, c.level-under-level.ensures, omega arith, sym c.if-not-names-below.ensures, fair) in
-    (search rules, (search rules, (search rules, (search rules, (subst (λ ys. Rows s.resources ys) (sym c.push-reserved.ensures.items) kept, tt)))))
+    let row : Component = record { parent = parent; level = c.level_under-level.result; needs = c.args.needs; rate = c.args.rate } in
+    let kept = rows_push s.resources xs row s.rows (known, c.level_under-level.ensures, omega arith, sym c.if-not-names_below.ensures, fair) in
+    record { room = search rules; count = search rules; places = search rules; shared = search rules; rows = subst (λ ys. Rows s.resources ys) (sym c.push_reserved.ensures.items) kept }

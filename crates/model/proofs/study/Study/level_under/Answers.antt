@@ -5,8 +5,8 @@ use Rattle.model.specs.declared.component.Component.{Component}
 use Rattle.model.specs.Components.{no_component, is_entered}
 use Rattle.model.proofs.study.Study.level_under.Goals as goal
 
-pub overflow-add-result : goal.overflow-add-result
-overflow-add-result c =
+pub overflow_add-result : goal.overflow_add-result
+overflow_add-result c =
     let s = c.args.self.now in
     let xs = s.table.rows.items in
     let ok = s.table.rows.ok.0 in

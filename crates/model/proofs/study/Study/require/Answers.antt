@@ -5,14 +5,14 @@ use Rattle.model.specs.Components.{no_component, with_needs, Rows}
 use Rattle.model.proofs.Rowwise.{rows_set}
 use Rattle.model.proofs.study.Study.require.Goals as goal
 
-pub invariant-of-self : goal.invariant-of-self
-invariant-of-self c =
+pub invariant_of-self : goal.invariant_of-self
+invariant_of-self c =
     let s = c.args.self.now in
     let xs = s.table.rows.items in
     let i = c.from-number.result in
     let ok = s.table.rows.ok.0 in
     let l : i < length xs = omega arith in
     let old = get_or_read xs i c.row.result.now l c.row.ensures.value no_component in
-    let kept = rows_set s.resources xs i c.args.needs l s.rows (sym c.if-not-names-below.ensures) in
+    let kept = rows_set s.resources xs i c.args.needs l s.rows (sym c.if-not-names_below.ensures) in
     let sound = subst (λ (r : Component). Rows s.resources (set xs i (with_needs r c.args.needs))) (sym old) kept in
-    (search rules, (search rules, (search rules, (search rules, (sound, tt)))))
+    record { room = search rules; count = search rules; places = search rules; shared = search rules; rows = sound }
