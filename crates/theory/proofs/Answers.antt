@@ -1,5 +1,5 @@
 -- The definition that goes through every row of bytes decides: it meets the answer's relation, which one row meets.
-use Rattle.std.proofs.Common.{◌≡◌, ℕ, ◌<◌, ◌≤◌, Bool, true, false, cond, ◌⊎◌, List, length, Some, None, Option, sym, refl, ap, ◌∙◌, subst, inl, inr, ⊎_elim, arith}
+use Rattle.std.proofs.Common.{◌≡◌, ℕ, ◌≤◌, Bool, true, false, cond, List, length, Some, None, Option, sym, refl, ap, ◌∙◌, subst, ⊎_elim, arith}
 use Rattle.std.specs.List.{ContainsAt as Has, AllByRecursion as All}
 use Rattle.std.proofs.ByRecursion.{All-weaker}
 use Rattle.std.proofs.lemmas.Bool.{false≢true}
@@ -7,7 +7,7 @@ use Rattle.costs.specs.Kinds.{Adding, Laws}
 use Rattle.theory.specs.Entries.{sum}
 use Rattle.theory.specs.Ranks.{Ranked}
 use Rattle.theory.specs.Amounts.{Amount, value, precedes}
-use Rattle.theory.specs.ReadingOrder.{Before, row_number, ByteOrder}
+use Rattle.theory.specs.ReadingOrder.{row_number, ByteOrder}
 use Rattle.theory.specs.Answers.{IsPlan, Answer, rows, solved, Bytewise, Decided}
 use Rattle.theory.proofs.Sums.{sum_known}
 use Rattle.theory.proofs.Precedence.{between_open}

@@ -1,10 +1,10 @@
 -- Postings added to both of two amounts keep which precedes, and a posting without negative money never lowers.
-use Rattle.std.proofs.Common.{◌≡◌, ℕ, ◌+◌, ◌*◌, ◌<◌, ◌≤◌, Bool, true, false, cond, not, ◌&&◌, ◌||◌, ◌⊎◌, List, [], ◌∷◌, ◌++◌, length, pos, ◌≤ℤ◌, Some, None, Option, sym, refl, ap, subst, subst₂, inl, inr, arith, length-append}
+use Rattle.std.proofs.Common.{◌≡◌, ℕ, ◌+◌, ◌*◌, ◌<◌, ◌≤◌, Bool, true, false, cond, ◌&&◌, ◌⊎◌, List, [], ◌∷◌, ◌++◌, length, pos, ◌≤ℤ◌, Some, None, sym, refl, ap, subst, subst₂, inl, inr, arith, length-append}
 use Rattle.std.proofs.lemmas.Bool.Decides.{nat_tests}
 use Rattle.costs.specs.Postings.{most}
-use Rattle.costs.specs.Kinds.{Adding, SumOf, join, Laws, Cost}
+use Rattle.costs.specs.Kinds.{Adding, SumOf, join, Laws}
 use Rattle.theory.specs.Entries.{Entry, post, sum}
-use Rattle.theory.specs.Amounts.{Amount, both, Fits, value, precedes}
+use Rattle.theory.specs.Amounts.{Amount, both, value, precedes}
 use Rattle.theory.specs.Ranks.{base}
 use Rattle.theory.proofs.Sums.{one_of, sum_known, sum_of, sum_push, sum_lower, sum_same}
 use Rattle.theory.proofs.Precedence.{one_way, not_lower}

@@ -1,5 +1,5 @@
 -- Closing the options that need a shut pair leaves the plans that need none, at what they post, and no other.
-use Rattle.std.proofs.Common.{◌≡◌, ℕ, zero, suc, ◌*◌, ◌<◌, ◌≤◌, Bool, true, false, cond, ◌&&◌, ◌||◌, eqb, ◌⊎◌, Option, sym, refl, ap, ◌∙◌, subst, ap₂, ⊎_elim, arith}
+use Rattle.std.proofs.Common.{◌≡◌, ℕ, zero, suc, ◌*◌, Bool, true, false, cond, ◌&&◌, ◌||◌, eqb, Option, sym, refl, ◌∙◌, subst, ap₂, ⊎_elim, arith}
 use Rattle.std.proofs.lemmas.Bool.{cases_eq, false≢true, and_parts, or_parts, or_from, or_left, or_right, or_cases}
 use Rattle.theory.specs.Entries.{Entry}
 use Rattle.theory.specs.Amounts.{Amount, nothing, closed, both}

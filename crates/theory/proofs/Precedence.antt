@@ -1,9 +1,9 @@
 -- Costs with their numbers in reading order are in order: none precedes itself, and what precedes is passed on.
-use Rattle.std.proofs.Common.{◌≡◌, ℕ, ◌<◌, ◌≤◌, Bool, true, false, cond, not, ◌&&◌, ◌||◌, ltb, Some, None, Option, sym, refl, ap, subst, subst₂, arith}
+use Rattle.std.proofs.Common.{◌≡◌, ℕ, ◌≤◌, Bool, true, false, cond, Some, None, Option, sym, refl, ap, subst, subst₂, arith}
 use Rattle.std.proofs.lemmas.Bool.Decides.{nat_tests}
 use Rattle.std.proofs.lemmas.Bool.{or_parts}
 use Rattle.costs.specs.Kinds.{Adding, Laws, Cost}
-use Rattle.theory.specs.Entries.{Entry, sum}
+use Rattle.theory.specs.Entries.{sum}
 use Rattle.theory.specs.Amounts.{Amount, Fits, value, Known, precedes}
 use Rattle.theory.proofs.Sums.{sum_known}
 

@@ -1,6 +1,5 @@
 -- The plans of a proper problem: the search may count them, the walk answers them, and they are rows of bytes.
-use Rattle.std.proofs.Common.{◌≡◌, ℕ, ◌+◌, ◌<◌, ◌≤◌, Bool, true, false, cond, not, ◌&&◌, eqb, List, ◌++◌, length, sym, refl, ap, ◌∙◌, subst, ap₂, subst₂, arith}
-use Rattle.std.specs.List.{AllByRecursion as All}
+use Rattle.std.proofs.Common.{◌≡◌, ℕ, ◌+◌, ◌≤◌, Bool, true, false, not, ◌&&◌, eqb, List, length, sym, refl, ap, ◌∙◌, subst, subst₂, arith}
 use Rattle.std.proofs.lemmas.Bool.{eq-eqb, eqb-true, and_parts, and_from, not-true, not_from_false}
 use Rattle.costs.specs.Postings.{most}
 use Rattle.costs.specs.Kinds.{Adding, Laws}
@@ -8,13 +7,13 @@ use Rattle.theory.specs.Entries.{Entry}
 use Rattle.theory.specs.Amounts.{Amount, value, precedes}
 use Rattle.theory.specs.Breakdowns.{spent, number}
 use Rattle.theory.specs.Tables.{Table, Sound, top_byte, breakdown, walked}
-use Rattle.theory.specs.Marks.{blocked, Clear}
-use Rattle.theory.specs.Searches.{Plans, Countable, IsClear, cost, Walk, Walked}
+use Rattle.theory.specs.Marks.{blocked}
+use Rattle.theory.specs.Searches.{Countable, IsClear, cost, Walked}
 use Rattle.theory.specs.ReadingOrder.{row_number}
 use Rattle.theory.specs.Answers.{IsPlan, Bytewise}
 use Rattle.theory.specs.Problems.{Problem, Proper, bytes_of, row_of, options_of, needs_of, if_whole, plans, costs, under, walk}
 use Rattle.theory.proofs.Tables.{spent_fits, open_bytes, open_posts}
-use Rattle.theory.proofs.Walked.{walked_bytes, walked_whole, walked_first}
+use Rattle.theory.proofs.Walked.{walked_whole, walked_first}
 use Rattle.theory.proofs.Marks.{clear_from, from_clear, allowed_spent, marked_sound}
 use Rattle.theory.proofs.Pairs.{pairs_fit}
 use Rattle.theory.proofs.RowsOfBytes.{row_length, row_bytes, number_of_row, number_of_bytes, spent_same, needed_same, bytes_up_to}

@@ -1,13 +1,13 @@
 -- A row of bytes, and the same bytes by component: what they post, what they need, and their number are the same.
-use Rattle.std.proofs.Common.{◌≡◌, ℕ, zero, suc, ◌+◌, ◌*◌, ◌<◌, ◌≤◌, ◌||◌, ◌⊎◌, List, [], ◌∷◌, ◌++◌, length, get_or, take, sym, refl, ap, ◌∙◌, ap₂, ⊎_elim, add-one, arith, length-append}
+use Rattle.std.proofs.Common.{◌≡◌, ℕ, zero, suc, ◌+◌, ◌*◌, ◌<◌, ◌≤◌, ◌||◌, List, [], ◌∷◌, ◌++◌, length, get_or, take, sym, refl, ap, ◌∙◌, ap₂, ⊎_elim, add-one, arith, length-append}
 use Rattle.std.specs.List.{AllByRecursion as All}
 use Rattle.std.proofs.lemmas.List.{take_more, take_all, get_or_push, get_or_append_left, get_or_past}
 use Rattle.std.proofs.ByRecursion.{All-from_get_or}
 use Rattle.std.proofs.lemmas.Bool.{cases_eq, cases_lt}
 use Rattle.theory.specs.Amounts.{nothing}
 use Rattle.theory.specs.Ranks.{base}
-use Rattle.theory.specs.Breakdowns.{Breakdown, spent, start, number}
-use Rattle.theory.specs.Tables.{Table, Sound, top_byte, breakdown}
+use Rattle.theory.specs.Breakdowns.{spent, number}
+use Rattle.theory.specs.Tables.{Table, Sound, breakdown}
 use Rattle.theory.specs.Needs.{Needs, own_needs, needed}
 use Rattle.theory.specs.ReadingOrder.{row_number}
 use Rattle.theory.specs.Problems.{bytes_of, row_of}

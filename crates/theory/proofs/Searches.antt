@@ -3,14 +3,13 @@
 -- No plan below the marks comes before the bound: its option postings do not precede the walk's, the held pairs added to
 -- both keep that, and the pairs that it needs besides never lower its cost. A plan that needs a free pair counts alike when
 -- the pair is held, and one that does not need it is left when the pair is shut; so the two branches together see every plan.
-use Rattle.std.proofs.Common.{◌≡◌, ℕ, ◌+◌, ◌<◌, ◌≤◌, Bool, true, false, cond, ◌||◌, eqb, ◌⊎◌, List, ◌++◌, length, Some, None, Option, sym, refl, ap, ◌∙◌, subst, ⊎_elim, arith}
+use Rattle.std.proofs.Common.{◌≡◌, ℕ, ◌+◌, ◌<◌, ◌≤◌, Bool, true, false, cond, ◌||◌, eqb, List, ◌++◌, length, Some, None, sym, refl, ap, ◌∙◌, subst, ⊎_elim, arith}
 use Rattle.std.proofs.lemmas.Bool.{ne_eqb, cases_eq, cases_Bool, false≢true, or_left, or_right, or_from}
 use Rattle.costs.specs.Postings.{most}
 use Rattle.costs.specs.Kinds.{Adding, Laws}
 use Rattle.theory.specs.Entries.{Entry, sum}
 use Rattle.theory.specs.Amounts.{Amount, value, Known, precedes}
-use Rattle.theory.specs.Marks.{Clear}
-use Rattle.theory.specs.Searches.{with_pairs, Plans, Countable, IsClear, cost, worth, Best, ahead, at_worth, at_cost, Walk, Walked, bound, Real, Found, With, Same}
+use Rattle.theory.specs.Searches.{with_pairs, Plans, Countable, IsClear, cost, worth, Best, ahead, at_worth, at_cost, Walk, Walked, bound, Found}
 use Rattle.theory.specs.Rules.{NothingBetter, Here, BothBranches, Rules}
 use Rattle.theory.proofs.Precedence.{known, passed_on, not_itself, turned, same_cost, pass}
 use Rattle.theory.proofs.Keeping.{not_lower_precedes}

@@ -1,5 +1,5 @@
 -- Whatever a search of all plans finds is what the definition through every row of bytes answers.
-use Rattle.std.proofs.Common.{◌≡◌, ℕ, Bool, true, false, cond, List, Some, None, Option, sym, refl, ap, ◌∙◌, subst, subst₂, arith}
+use Rattle.std.proofs.Common.{◌≡◌, ℕ, Bool, true, false, cond, List, Some, None, Option, sym, refl, ap, ◌∙◌, subst, subst₂}
 use Rattle.std.proofs.lemmas.Bool.{false≢true}
 use Rattle.costs.specs.Kinds.{Adding, Laws}
 use Rattle.theory.specs.Entries.{sum}
@@ -7,7 +7,7 @@ use Rattle.theory.specs.Amounts.{value, precedes}
 use Rattle.theory.specs.Tables.{top_byte}
 use Rattle.theory.specs.Searches.{Best, IsClear, cost, Found}
 use Rattle.theory.specs.ReadingOrder.{row_number, ByteOrder}
-use Rattle.theory.specs.Answers.{IsPlan, Answer, costs_of, solved}
+use Rattle.theory.specs.Answers.{IsPlan, costs_of, solved}
 use Rattle.theory.specs.Laws.{Solves}
 use Rattle.theory.specs.Problems.{Problem, Proper, plans, costs, no_plan, plan_if, plan_of}
 use Rattle.theory.proofs.Searches.{found_all}

@@ -4,7 +4,7 @@
 -- down, each from that of the next place up; the byte is the note; and the amount is added to the sums of its parent, which
 -- then are those of `sums_at (i - 1)`. At the end the sum of the whole is the walk's cost, and the bytes are read off the
 -- notes from the first component to the last.
-use Rattle.std.proofs.Common.{◌≡◌, ℕ, zero, suc, ◌+◌, ◌-◌, ◌*◌, ◌<◌, ◌≤◌, Bool, true, false, cond, eqb, ◌⊎◌, length, sym, refl, ap, ◌∙◌, subst, ⊎_elim, arith, length-append}
+use Rattle.std.proofs.Common.{◌≡◌, ℕ, zero, suc, ◌+◌, ◌-◌, ◌*◌, ◌<◌, ◌≤◌, Bool, eqb, length, sym, refl, ap, ◌∙◌, subst, ⊎_elim, arith, length-append}
 use mathlib.Core.Path.{fun_ext}
 use Rattle.std.proofs.lemmas.Bool.{eq-eqb, ne_eqb, cases_eq, cond-true, cond-false}
 use Rattle.costs.specs.Kinds.{Adding, Laws}
@@ -12,13 +12,13 @@ use Rattle.theory.specs.Amounts.{Amount, nothing, both, value}
 use Rattle.theory.specs.Options.{Options, posted}
 use Rattle.theory.specs.Choices.{Choice, no_way, discarded, repaired, moved, better, way_on, best}
 use Rattle.theory.specs.Breakdowns.{Breakdown, Sums, total, spent, start, put, plan}
-use Rattle.theory.specs.Tables.{Table, Sound, top_byte, enter, breakdown, best_from, chosen, take_one, sums, sums_at, notes, walked, most_options}
+use Rattle.theory.specs.Tables.{Table, Sound, enter, breakdown, best_from, chosen, take_one, sums, sums_at, notes, walked, most_options}
 use Rattle.theory.proofs.Routes.{posted_length, repair_repairs_here}
 use Rattle.theory.proofs.Bests.{better_either}
 use Rattle.theory.proofs.Inserted.{onto_same, onto_other}
-use Rattle.theory.proofs.Totals.{Regular, put_same, put_other, total_is_spent, sums_bounded_at}
-use Rattle.theory.proofs.Walks.{plan_step, plan_whole}
-use Rattle.theory.proofs.Tables.{regular, bounded}
+use Rattle.theory.proofs.Totals.{put_same, put_other, total_is_spent, sums_bounded_at}
+use Rattle.theory.proofs.Walks.{plan_step}
+use Rattle.theory.proofs.Tables.{regular}
 use Rattle.theory.proofs.Walked.{one_more, sums_bounded, notes_small}
 
 module _ {C : Type 0} (k : Adding C) (lower : C → C → Bool) where

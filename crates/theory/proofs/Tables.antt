@@ -1,11 +1,11 @@
 -- A sound table is a regular breakdown of few postings.
-use Rattle.std.proofs.Common.{◌≡◌, ℕ, zero, suc, ◌+◌, ◌*◌, ◌<◌, ◌≤◌, Bool, true, false, cond, ◌&&◌, eqb, ◌⊎◌, [], ◌++◌, length, sym, refl, ap, ◌∙◌, subst, inl, inr, ⊎_elim, arith, length-append}
+use Rattle.std.proofs.Common.{◌≡◌, ℕ, zero, suc, ◌*◌, ◌<◌, ◌≤◌, Bool, true, false, cond, eqb, ◌⊎◌, length, sym, refl, ◌∙◌, subst, inl, inr, ⊎_elim, arith, length-append}
 use Rattle.std.proofs.lemmas.Bool.{eq-eqb, eqb-true, cases_eq, false≢true, and_parts, cond-true, cond_both}
-use Rattle.theory.specs.Amounts.{Amount, nothing, closed, both}
+use Rattle.theory.specs.Amounts.{Amount, nothing, closed}
 use Rattle.theory.specs.Places.{longest}
 use Rattle.theory.specs.Options.{route}
-use Rattle.theory.specs.Breakdowns.{Breakdown, total, spent, start}
-use Rattle.theory.specs.Tables.{Table, top_byte, Sound, own, enter, breakdown, most_options}
+use Rattle.theory.specs.Breakdowns.{spent, start}
+use Rattle.theory.specs.Tables.{Table, top_byte, Sound, own, breakdown, most_options}
 use Rattle.theory.proofs.Routes.{route_length, route_open, route_byte}
 use Rattle.theory.proofs.Totals.{Regular, Bounded, total_is_spent}
 

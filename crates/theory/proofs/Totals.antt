@@ -1,11 +1,10 @@
 -- Totals and numbers of bytes: they depend on the bytes up to a component only, and one byte more adds at the end.
-use Rattle.std.proofs.Common.{◌≡◌, ℕ, zero, suc, ◌+◌, ◌*◌, ◌<◌, ◌≤◌, Bool, true, false, cond, eqb, ◌⊎◌, ◌++◌, length, sym, refl, ap, ◌∙◌, subst, ⊎_elim, arith, length-append}
+use Rattle.std.proofs.Common.{◌≡◌, ℕ, zero, suc, ◌+◌, ◌*◌, ◌<◌, ◌≤◌, true, cond, ◌⊎◌, ◌++◌, length, sym, refl, ap, ◌∙◌, subst, ⊎_elim, arith, length-append}
 use Rattle.std.proofs.lemmas.Bool.{eq-eqb, ne_eqb, cases_eq}
 use Rattle.theory.specs.Ranks.{base, Ranked}
 use Rattle.theory.specs.Amounts.{Amount, nothing, both}
 use Rattle.theory.specs.Breakdowns.{Breakdown, Sums, total, spent, way, start, number, put}
 use Rattle.theory.specs.Tables.{most_options}
-use Rattle.theory.proofs.Keeping.{Posted}
 use Rattle.theory.proofs.Routes.{both_nothing}
 
 -- every byte is one that has a rank

@@ -1,15 +1,15 @@
 -- The walk of a table: its notes are right, so no row of bytes precedes its plan.
-use Rattle.std.proofs.Common.{◌≡◌, ℕ, zero, suc, ◌+◌, ◌-◌, ◌*◌, ◌<◌, ◌≤◌, Bool, true, false, cond, ◌&&◌, eqb, ◌⊎◌, length, sym, refl, ap, ◌∙◌, subst, subst₂, inl, inr, ⊎_elim, arith}
+use Rattle.std.proofs.Common.{◌≡◌, ℕ, zero, suc, ◌+◌, ◌-◌, ◌*◌, ◌<◌, ◌≤◌, Bool, true, false, cond, eqb, length, sym, refl, ap, ◌∙◌, subst, subst₂, ⊎_elim, arith}
 use mathlib.Core.Path.{fun_ext}
-use Rattle.std.proofs.lemmas.Bool.{eq-eqb, ne_eqb, eqb-true, eqb-false, cases_eq, cases_lt, cond-true, cond-false, cond_both}
+use Rattle.std.proofs.lemmas.Bool.{ne_eqb, eqb-true, eqb-false, cases_eq, cond-false, cond_both}
 use Rattle.costs.specs.Postings.{most}
 use Rattle.costs.specs.Kinds.{Adding, Laws}
 use Rattle.theory.specs.Amounts.{Amount, nothing, closed, both, value, precedes}
 use Rattle.theory.specs.Places.{longest}
 use Rattle.theory.specs.Options.{repaired_at, route}
-use Rattle.theory.specs.Choices.{Choice, best}
-use Rattle.theory.specs.Breakdowns.{Breakdown, Sums, total, spent, way, onto, start, number, taken, plan, Noted}
-use Rattle.theory.specs.Tables.{Table, top_byte, Sound, own, enter, breakdown, best_from, chosen, take_one, sums, sums_at, notes, walked, most_options}
+use Rattle.theory.specs.Choices.{Choice}
+use Rattle.theory.specs.Breakdowns.{Sums, spent, way, onto, number, taken, Noted}
+use Rattle.theory.specs.Tables.{Table, top_byte, Sound, enter, breakdown, best_from, chosen, take_one, sums, sums_at, notes, walked}
 use Rattle.theory.proofs.Precedence.{itself, none_is_last}
 use Rattle.theory.proofs.Routes.{both_nothing, repair_repairs_here}
 use Rattle.theory.proofs.Bests.{best_right, best_first}

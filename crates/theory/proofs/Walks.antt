@@ -3,18 +3,18 @@
 -- Induct on the components, the last one first. With component i + 1 taken, what the first i components post for any bytes
 -- costs the same as what the first i + 1 post, when the last of them has the byte noted for its start. That byte is least
 -- whatever the others are, and since the component is the last one, it decides last in reading order too.
-use Rattle.std.proofs.Common.{◌≡◌, ℕ, zero, suc, ◌+◌, ◌*◌, ◌<◌, ◌≤◌, Bool, true, false, cond, ◌&&◌, eqb, ◌⊎◌, length, sym, refl, ap, ◌∙◌, subst, subst₂, inl, inr, ⊎_elim, arith, length-append}
+use Rattle.std.proofs.Common.{◌≡◌, ℕ, zero, suc, ◌+◌, ◌*◌, ◌≤◌, Bool, true, false, cond, eqb, length, sym, refl, ap, ◌∙◌, subst, subst₂, inl, inr, ⊎_elim, arith, length-append}
 use Rattle.std.proofs.lemmas.Bool.{cases_eq, and_parts}
 use Rattle.costs.specs.Postings.{most}
 use Rattle.costs.specs.Kinds.{Adding, Laws}
 use Rattle.theory.specs.Ranks.{base}
-use Rattle.theory.specs.Amounts.{Amount, Fits, both, value, precedes}
+use Rattle.theory.specs.Amounts.{Fits, value, precedes}
 use Rattle.theory.specs.Breakdowns.{Breakdown, Sums, total, way, start, number, put, taken, plan, Noted}
 use Rattle.theory.specs.Tables.{most_options}
 use Rattle.theory.proofs.Precedence.{pass, itself, weaker}
 use Rattle.theory.proofs.Keeping.{Posted, keeps}
 use Rattle.theory.proofs.Inserted.{Inserted, in_total, inserted_value, inserted_length}
-use Rattle.theory.proofs.Totals.{Bytes, Regular, put_other, total_same, same_number, with_next, total_put, number_put, Bounded}
+use Rattle.theory.proofs.Totals.{Bytes, Regular, put_other, same_number, with_next, total_put, number_put, Bounded}
 
 module _ (t : Breakdown) (ok : Regular t) (notes : ℕ → ℕ → ℕ) where
   -- component i + 1's noted byte, for the bytes before it

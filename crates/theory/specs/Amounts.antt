@@ -1,5 +1,5 @@
 -- Amounts: rows of postings that are open or closed, their costs, and which of two costs comes first.
-use Rattle.std.specs.Prelude.{ℕ, ◌≤◌, Bool, true, false, cond, not, ◌&&◌, ◌||◌, List, [], ◌∷◌, ◌++◌, length, Some, None, Option, nat_lt}
+use Rattle.std.specs.Prelude.{ℕ, ◌≤◌, Bool, true, false, cond, not, ◌&&◌, ◌||◌, List, [], ◌++◌, length, Some, None, Option, nat_lt}
 use Rattle.costs.specs.Kinds.{Adding, Cost}
 use Rattle.costs.specs.Postings.{most}
 use Rattle.theory.specs.Entries.{Entry, sum}

@@ -3,7 +3,7 @@
 -- Components count from 1. Number 0 stands for the whole, which the top components are under: so every component has a
 -- parent, and what the top components post in all stands among the sums, at the whole. The whole has no decision; its byte
 -- is always 0.
-use Rattle.std.specs.Prelude.{◌≡◌, ℕ, zero, suc, ◌+◌, ◌*◌, ◌≤◌, Bool, false, cond, ◌==◌}
+use Rattle.std.specs.Prelude.{◌≡◌, ℕ, zero, suc, ◌+◌, ◌*◌, Bool, false, cond, ◌==◌}
 use Rattle.costs.specs.Kinds.{Adding}
 use Rattle.theory.specs.Ranks.{base}
 use Rattle.theory.specs.Amounts.{Amount, nothing, both, value, precedes}

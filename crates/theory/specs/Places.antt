@@ -1,5 +1,5 @@
 -- Places and the way up from each: all that the argument knows of them.
-use Rattle.std.specs.Prelude.{◌≡◌, ℕ, suc, ◌+◌, ◌-◌, ◌<◌, ◌≤◌, cond, ◌==◌}
+use Rattle.std.specs.Prelude.{◌≡◌, ℕ, suc, ◌-◌, ◌<◌, ◌≤◌, cond, ◌==◌}
 
 -- places are 1 to `last`; `up e` is the next place up from e; `above e` counts the places on the way up from e, e itself
 -- among them, and is 0 where e is no place

@@ -1,10 +1,10 @@
 -- What the solver works on: a table, the pairs that its options need, and the pairs' postings; and its plans as rows of bytes.
-use Rattle.std.specs.Prelude.{◌≡◌, ℕ, zero, suc, ◌+◌, ◌<◌, ◌≤◌, Bool, true, false, cond, not, ◌&&◌, List, [], ◌∷◌, ◌++◌, length, pos, ◌≤ℤ◌, Some, None, Option, ◌==◌, slice_index}
+use Rattle.std.specs.Prelude.{ℕ, zero, suc, ◌<◌, ◌≤◌, Bool, not, ◌&&◌, List, [], ◌∷◌, ◌++◌, length, pos, ◌≤ℤ◌, Some, None, Option, ◌==◌, slice_index}
 use Rattle.costs.specs.Kinds.{Adding}
 use Rattle.theory.specs.Entries.{Entry}
-use Rattle.theory.specs.Amounts.{Amount, closed}
+use Rattle.theory.specs.Amounts.{Amount}
 use Rattle.theory.specs.Breakdowns.{spent}
-use Rattle.theory.specs.Tables.{Table, Sound, breakdown, walked, most_options}
+use Rattle.theory.specs.Tables.{Table, Sound, breakdown, walked}
 use Rattle.theory.specs.Needs.{Needs, needed}
 use Rattle.theory.specs.Marks.{blocked, marked}
 use Rattle.theory.specs.Searches.{Plans, Best, Walk, with_pairs}

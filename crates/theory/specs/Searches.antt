@@ -2,7 +2,7 @@
 --
 -- Each pair is held, free or shut. The search of some marks looks at the plans that need no shut pair, and counts for each
 -- the pairs that it needs and the held ones.
-use Rattle.std.specs.Prelude.{◌≡◌, ℕ, zero, suc, ◌+◌, ◌<◌, ◌≤◌, Bool, true, false, cond, ◌||◌, List, [], ◌∷◌, ◌++◌, length, pos, ◌≤ℤ◌, Some, None, Option, ◌==◌}
+use Rattle.std.specs.Prelude.{◌≡◌, ℕ, zero, suc, ◌+◌, ◌<◌, ◌≤◌, Bool, true, false, cond, ◌||◌, List, [], ◌∷◌, ◌++◌, length, pos, ◌≤ℤ◌, Some, Option, ◌==◌}
 use Rattle.costs.specs.Postings.{most}
 use Rattle.costs.specs.Kinds.{Adding}
 use Rattle.theory.specs.Entries.{Entry}
