@@ -1,6 +1,6 @@
 -- The definition that goes through every row of bytes decides: it meets the answer's relation, which one row meets.
 use Rattle.std.proofs.Common.{◌≡◌, ℕ, ◌≤◌, Bool, true, false, cond, List, length, Some, None, Option, sym, refl, ap, ◌∙◌, subst, ⊎_elim, arith}
-use Rattle.std.specs.List.{ContainsAt as Has, AllByRecursion as All}
+use Rattle.std.specs.List.{ContainsAt as Has, AllByRecursion}
 use Rattle.std.proofs.ByRecursion.{All-weaker}
 use Rattle.std.proofs.lemmas.Bool.{false≢true}
 use Rattle.costs.specs.Kinds.{Adding, Laws}
@@ -72,7 +72,7 @@ module _ {C : Type 0} {k : Adding C} {lower : C → C → Bool} (laws : Laws k l
   unfolding solved
   kept = keep_all laws costs ok.fits (row_number rank 0) None (rows bytes n) (rows_in_order rank top ranks bytes order.only_bytes order.in_order n 0) (after_none (row_number rank 0) (rows bytes n)) tt
 
-  of_every_row : (Q : List ℕ → Type 0) → All Q (rows bytes n) → (y : List ℕ) → IsPlan costs y → Q y
+  of_every_row : (Q : List ℕ → Type 0) → AllByRecursion Q (rows bytes n) → (y : List ℕ) → IsPlan costs y → Q y
   of_every_row Q h y p = all_rows bytes n Q h y (ok.size y p) (All-weaker (λ b. b ≤ top) (Has bytes) order.every_byte y (ok.bytes y p))
 
   kept_decides : (o : Option (List ℕ)) → KeptAll laws costs ok.fits (row_number rank 0) None (rows bytes n) o → Decides o

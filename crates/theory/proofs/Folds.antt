@@ -1,6 +1,6 @@
 -- Going through a list in order and keeping the first of the least: no element precedes what is kept.
 use Rattle.std.proofs.Common.{◌≡◌, ℕ, ◌<◌, ◌≤◌, Bool, true, false, cond, List, [], ◌∷◌, Some, None, fold, Option, refl, arith}
-use Rattle.std.specs.List.{AllByRecursion as All}
+use Rattle.std.specs.List.{AllByRecursion}
 use Rattle.std.proofs.lemmas.Bool.Decides.{nat_tests}
 use Rattle.costs.specs.Kinds.{Adding, Laws}
 use Rattle.theory.specs.Entries.{Entry, sum}
@@ -23,7 +23,7 @@ abbrev pub IsOpen : {X : Type 0} → (X → Amount) → Option X → Type 0
 IsOpen costs None = Unit {0}
 IsOpen costs (Some x) = (costs x).is_open ≡ true
 
-pub after_none : {X : Type 0} (number : X → ℕ) (xs : List X) → All (After number None) xs
+pub after_none : {X : Type 0} (number : X → ℕ) (xs : List X) → AllByRecursion (After number None) xs
 after_none number [] = tt
 after_none number (x ∷ xs) = (tt, after_none number xs)
 
@@ -57,9 +57,9 @@ module _ {X C : Type 0} {k : Adding C} {lower : C → C → Bool} (laws : Laws k
 
   -- c is kept of the best so far and x
   abbrev KeptOf : Option X → X → List X → Option X → Type 0
-  KeptOf b x xs c = NotBefore (costs_of costs b) (number_of number b) c × NotBefore (costs x) (number x) c × All (After number c) xs × IsOpen costs c
+  KeptOf b x xs c = NotBefore (costs_of costs b) (number_of number b) c × NotBefore (costs x) (number x) c × AllByRecursion (After number c) xs × IsOpen costs c
 
-  keep_one : (b : Option X) (x : X) (xs : List X) → After number b x → All (After number b) xs → All (λ y. number x < number y) xs → IsOpen costs b → KeptOf b x xs (keep k lower costs b x)
+  keep_one : (b : Option X) (x : X) (xs : List X) → After number b x → AllByRecursion (After number b) xs → AllByRecursion (λ y. number x < number y) xs → IsOpen costs b → KeptOf b x xs (keep k lower costs b x)
   keep_one b x xs p ps qs opens = go (is_lower lower (value k (costs x)) (value k (costs_of costs b))) refl
     where
       later : (c : Option X) → After number c x → is_lower lower (value k (costs x)) (value k (costs_of costs c)) ≡ false → NotBefore (costs x) (number x) c
@@ -72,9 +72,9 @@ module _ {X C : Type 0} {k : Adding C} {lower : C → C → Bool} (laws : Laws k
 
   -- neither b nor any element precedes r, which is open
   abbrev pub KeptAll : Option X → List X → Option X → Type 0
-  KeptAll b xs r = NotBefore (costs_of costs b) (number_of number b) r × All (λ y. NotBefore (costs y) (number y) r) xs × IsOpen costs r
+  KeptAll b xs r = NotBefore (costs_of costs b) (number_of number b) r × AllByRecursion (λ y. NotBefore (costs y) (number y) r) xs × IsOpen costs r
 
-  pub keep_all : (b : Option X) (xs : List X) → InOrder number xs → All (After number b) xs → IsOpen costs b → KeptAll b xs (fold (keep k lower costs) b xs)
+  pub keep_all : (b : Option X) (xs : List X) → InOrder number xs → AllByRecursion (After number b) xs → IsOpen costs b → KeptAll b xs (fold (keep k lower costs) b xs)
   keep_all b [] o ps opens = (itself laws (costs_of costs b) (number_of number b) (number_of number b) (omega arith) (fits_of b), tt, opens)
   keep_all b (x ∷ xs) o ps opens =
       let s = keep_one b x xs ps.0 ps.1 o.0 opens in

@@ -1,6 +1,6 @@
 -- A row of bytes, and the same bytes by component: what they post, what they need, and their number are the same.
 use Rattle.std.proofs.Common.{◌≡◌, ℕ, zero, suc, ◌+◌, ◌*◌, ◌<◌, ◌≤◌, ◌||◌, List, [], ◌∷◌, ◌++◌, length, get_or, take, sym, refl, ap, ◌∙◌, ap₂, ⊎_elim, add-one, arith, length-append}
-use Rattle.std.specs.List.{AllByRecursion as All}
+use Rattle.std.specs.List.{AllByRecursion}
 use Rattle.std.proofs.lemmas.List.{take_more, take_all, get_or_push, get_or_append_left, get_or_past}
 use Rattle.std.proofs.ByRecursion.{All-from_get_or}
 use Rattle.std.proofs.lemmas.Bool.{cases_eq, cases_lt}
@@ -64,7 +64,7 @@ module _ (g : Table) (ok : Sound g) where
       ap₂ ◌||◌ (needed_same u a b j n (λ i l. h i (omega arith))) (ap₂ (λ p v. own_needs g u (suc n) (t.enter (suc n) (t.repairs p)) v j) (h (g.parent (suc n)) (omega arith)) (h (suc n) (omega arith)))
 
   -- bytes up to the greatest, given those of the row's components
-  pub bytes_up_to : (r : List ℕ) (n top : ℕ) → length r ≡ n → ((i : ℕ) → i < n → bytes_of r (suc i) ≤ top) → ((i : ℕ) → bytes_of r i ≤ top) × All (λ b. b ≤ top) r
+  pub bytes_up_to : (r : List ℕ) (n top : ℕ) → length r ≡ n → ((i : ℕ) → i < n → bytes_of r (suc i) ≤ top) → ((i : ℕ) → bytes_of r i ≤ top) × AllByRecursion (λ b. b ≤ top) r
   bytes_up_to r n top e h =
       ((λ i. by i), All-from_get_or (λ b. b ≤ top) r 0 (λ i l. h i (omega arith)))
     where

@@ -1,7 +1,7 @@
 -- The answer: a plan, none lower, and first in reading order among those at its cost; and the definition that goes through
 -- every row of bytes. Here `costs` gives each row of bytes what it posts, closed where it is no plan.
 use Rattle.std.specs.Prelude.{◌≡◌, ℕ, zero, suc, ◌≤◌, Bool, true, false, cond, ◌⊎◌, List, [], ◌∷◌, map, length, Some, None, fold, Option}
-use Rattle.std.specs.List.{flat_map, AllByRecursion as All}
+use Rattle.std.specs.List.{flat_map, AllByRecursion}
 use Rattle.costs.specs.Kinds.{Adding}
 use Rattle.theory.specs.Entries.{sum}
 use Rattle.theory.specs.Amounts.{Amount, closed, Fits, value}
@@ -42,7 +42,7 @@ solved k lower costs bytes n = fold (keep k lower costs) None (rows bytes n)
 -- what the definition asks of the costs: every plan is a row of n bytes up to the greatest, and posts few enough
 pub record Bytewise (costs : List ℕ → Amount) (top n : ℕ) : Type 0 where
   pub size : (y : List ℕ) → IsPlan costs y → length y ≡ n
-  pub bytes : (y : List ℕ) → IsPlan costs y → All (λ b. b ≤ top) y
+  pub bytes : (y : List ℕ) → IsPlan costs y → AllByRecursion (λ b. b ≤ top) y
   pub fits : (y : List ℕ) → Fits (costs y)
 
 -- what o says of the plans: a row that it names is the answer, and any answer is that row; it names none only where there
