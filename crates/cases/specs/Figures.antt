@@ -1,6 +1,6 @@
 -- The worked figures: each follows from the definitions that the contracts cite.
 use Rattle.std.specs.Prelude.{◌≡◌, ℕ, List, [], ◌∷◌, replicate, ℤ, pos, neg_ℤ, Ok, Err, Result, int_lt}
-use Rattle.std.specs.List.{AllByRecursion as All}
+use Rattle.std.specs.List.{AllByRecursion}
 use Rattle.costs.specs.Amounts.{money, totals, sooner}
 use Rattle.costs.specs.declared.totals.Total.{Total}
 use Rattle.model.specs.declared.refusal.Refusal.{Refusal}
@@ -59,4 +59,4 @@ figures =
     ∷ []
 
 abbrev pub FiguresFollow : Type 0
-FiguresFollow = All Follows figures
+FiguresFollow = AllByRecursion Follows figures

@@ -1,6 +1,6 @@
 -- The levels within entries and lists: nothing there is of a level above the entry's own.
 use Rattle.std.proofs.Common.{◌≡◌, ℕ, zero, suc, ◌<◌, ◌≤◌, true, cond, List, [], Some, Option, sym, ap, subst, inl, inr, arith}
-use Rattle.std.specs.List.{AllByRecursion as All}
+use Rattle.std.specs.List.{AllByRecursion}
 use Rattle.std.proofs.ByRecursion.{All-append, All-weaker}
 use Rattle.std.proofs.lemmas.Bool.{cases_Bool}
 use Rattle.model.specs.Components.{level_under}
@@ -11,22 +11,22 @@ use Rattle.reports.specs.LineOrder.{is_under, listed_below, entry, entry_of}
 use Rattle.reports.proofs.Entries.{level, level_is}
 
 -- what holds of all parts holds of the list that is made of them
-all_upto : (P : ℕ → Type 0) (f : ℕ → List ℕ) (n : ℕ) → ((k : ℕ) → k < n → All P (f k)) → All P (upto f n)
+all_upto : (P : ℕ → Type 0) (f : ℕ → List ℕ) (n : ℕ) → ((k : ℕ) → k < n → AllByRecursion P (f k)) → AllByRecursion P (upto f n)
 all_upto P f zero each = tt
 all_upto P f (suc n) each = All-append P (upto f n) (f n) (all_upto P f n (λ k h. each k (omega arith))) (each n (omega arith))
 
 module _ (s : Model) (limits : Limits s) where
   -- entries that are deep enough make a list that is
-  list_deep : (m : ℕ) (f : ℕ → List ℕ) (p : Option ℕ) (n : ℕ) → n ≤ count s → ((j : ℕ) → j < n → is_under s p j ≡ true → All (λ x. m ≤ level s x) (f j)) → All (λ x. m ≤ level s x) (listed_below s f p n)
+  list_deep : (m : ℕ) (f : ℕ → List ℕ) (p : Option ℕ) (n : ℕ) → n ≤ count s → ((j : ℕ) → j < n → is_under s p j ≡ true → AllByRecursion (λ x. m ≤ level s x) (f j)) → AllByRecursion (λ x. m ≤ level s x) (listed_below s f p n)
   list_deep m f p n l each =
-      let Deep : List ℕ → Type 0 = All (λ x. m ≤ level s x) in
+      let Deep : List ℕ → Type 0 = AllByRecursion (λ x. m ≤ level s x) in
       all_upto (λ x. m ≤ level s x) _ n (λ j b.
       elim (cases_Bool (is_under s p j)) [
         | inl u ↦ subst Deep (sym (ap (λ t. cond t (f j) []) u)) (each j b u)
         | inr o ↦ subst Deep (sym (ap (λ t. cond t (f j) []) o)) tt
       ])
 
-  entry_deep : (left k : ℕ) → k < count s → All (λ x. level s k ≤ level s x) (entry s left k)
+  entry_deep : (left k : ℕ) → k < count s → AllByRecursion (λ x. level s k ≤ level s x) (entry s left k)
   unfolding entry
   entry_deep zero k h = (omega arith, tt)
   entry_deep (suc left) k h = (
@@ -37,7 +37,7 @@ module _ (s : Model) (limits : Limits s) where
   )
 
   -- a list has only components of its own level and of deeper ones
-  pub below_deep : (p : Option ℕ) (n : ℕ) → n ≤ count s → All (λ x. level_under s.components p ≤ level s x) (listed_below s (entry_of s) p n)
+  pub below_deep : (p : Option ℕ) (n : ℕ) → n ≤ count s → AllByRecursion (λ x. level_under s.components p ≤ level s x) (listed_below s (entry_of s) p n)
   below_deep p n l =
       list_deep (level_under s.components p) (entry_of s) p n l (λ j b u.
       let inside : j < count s = omega arith in

@@ -1,6 +1,6 @@
 -- Lines that have byte 10 once, at their end.
 use Rattle.std.proofs.Common.{◌≡◌, ℕ, ◌^◌, ◌<◌, ◌≤◌, Bool, true, false, not, ◌&&◌, eqb, List, [], ◌∷◌, ◌++◌, decimal, sym, refl, ap, ◌∙◌, append_assoc, arith}
-use Rattle.std.specs.List.{AllByRecursion as All}
+use Rattle.std.specs.List.{AllByRecursion}
 use Rattle.std.proofs.ByRecursion.{All-append, All-weaker}
 use Rattle.std.proofs.lemmas.Bool.{and_parts, eqb-false, not-true}
 use Rattle.reports.specs.LineEnds.{EndsOnce}
@@ -14,20 +14,20 @@ abbrev pub none_ten : List ℕ → Bool
 none_ten [] = true
 none_ten (b ∷ bs) = not (eqb b 10) && none_ten bs
 
-pub all_not_ten : (bs : List ℕ) → none_ten bs ≡ true → All NotTen bs
+pub all_not_ten : (bs : List ℕ) → none_ten bs ≡ true → AllByRecursion NotTen bs
 all_not_ten [] h = tt
 all_not_ten (b ∷ bs) h =
     let parts = and_parts (not (eqb b 10)) (none_ten bs) h in
     (eqb-false b 10 (not-true (eqb b 10) parts.0), all_not_ten bs parts.1)
 
-pub digits_not_ten : (n : ℕ) → n < 2 ^ 64 → All NotTen (decimal n)
+pub digits_not_ten : (n : ℕ) → n < 2 ^ 64 → AllByRecursion NotTen (decimal n)
 digits_not_ten n fits = All-weaker (λ b. (48 ≤ b) × (b ≤ 57)) NotTen (λ b d e. let low = d.0 in omega arith) (decimal n) (digits n fits)
 
 -- byte 10 alone, and what comes before a line's end
 pub ends_ten : EndsOnce (10 ∷ [])
 ends_ten = record { before = []; at_end = refl; only_there = tt }
 
-pub ends_after : (bs : List ℕ) {rest : List ℕ} → All NotTen bs → EndsOnce rest → EndsOnce (bs ++ rest)
+pub ends_after : (bs : List ℕ) {rest : List ℕ} → AllByRecursion NotTen bs → EndsOnce rest → EndsOnce (bs ++ rest)
 ends_after bs {rest} none ends =
     record {
       before = bs ++ ends.before;

@@ -1,6 +1,6 @@
 -- Which line follows which: a component's after its parent's, and those under one parent by number.
 use Rattle.std.proofs.Common.{◌≡◌, ℕ, ◌+◌, ◌<◌, ◌≤◌, true, cond, List, [], ◌∷◌, ◌++◌, Some, Option, refl, ap, ◌∙◌, subst, append_assoc, arith}
-use Rattle.std.specs.List.{AllByRecursion as All}
+use Rattle.std.specs.List.{AllByRecursion}
 use Rattle.std.proofs.ByRecursion.{All-weaker}
 use Rattle.std.proofs.lemmas.Bool.{ltb-true}
 use Rattle.model.specs.Components.{is_entered, level_under}
@@ -22,7 +22,7 @@ after_parent a u m r b p i = simp append_assoc
 after_lower : (a h u m y n r b : List ℕ) (i j : ℕ) → a ++ (h ++ (((u ++ ((i ∷ m) ++ y)) ++ ((j ∷ n) ++ r)) ++ b)) ≡ (a ++ (h ++ u)) ++ i ∷ ((m ++ y) ++ j ∷ (n ++ (r ++ b)))
 after_lower a h u m y n r b i j = simp append_assoc
 
-all_right : (P : ℕ → Type 0) (xs ys : List ℕ) → All P (xs ++ ys) → All P ys
+all_right : (P : ℕ → Type 0) (xs ys : List ℕ) → AllByRecursion P (xs ++ ys) → AllByRecursion P ys
 all_right P [] ys h = h
 all_right P (x ∷ xs) ys h = all_right P xs ys h.1
 
@@ -69,7 +69,7 @@ module _ (s : Model) (limits : Limits s) where
       let theirs = listed s (entry_of s) (Some j) in
       let cut : listed_below s (entry_of s) o j ≡ front ++ ((i ∷ mine) ++ part.0) =
       part.1 ∙ ap (λ t. front ++ (cond t (entry_of s i) [] ++ part.0)) (under_it i o e) ∙ ap (λ x. front ++ (x ++ part.0)) (entry_is s limits i inside) in
-      let Deep : List ℕ → Type 0 = All (λ k. level_under s.components o ≤ level s k) in
+      let Deep : List ℕ → Type 0 = AllByRecursion (λ k. level_under s.components o ≤ level s k) in
       let deep = level_is s limits o i inside (under_it i o e) in
       let only = (all_right _ front ((i ∷ mine) ++ part.0) (subst Deep cut (below_deep s limits o j (omega arith)))).1 in
       record {

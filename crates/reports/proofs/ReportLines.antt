@@ -1,7 +1,7 @@
 -- The lines of a report: byte 10 stands in each once, at its end.
 use Rattle.std.proofs.Common.{◌≡◌, ℕ, zero, suc, ◌+◌, ◌/◌, ◌^◌, ◌<◌, ◌≤◌, true, cond, ◌&&◌, eqb, leb, List, [], ◌∷◌, ◌++◌, replicate, ℤ, pos, negsuc, Some, None, codes, decimal, refl, arith}
 use lib.Signed.{mag}
-use Rattle.std.specs.List.{AllByRecursion as All}
+use Rattle.std.specs.List.{AllByRecursion}
 use Rattle.std.specs.Fmt.{signed_decimal}
 use Rattle.std.proofs.lemmas.Bool.{cond_both, and_parts, leb-true}
 use Rattle.model.specs.Studies.{Model, Limits}
@@ -13,7 +13,7 @@ use Rattle.reports.specs.Lines.{choice_letter, decision_text, total_line}
 use Rattle.reports.specs.Reports.{indent, line}
 use Rattle.reports.proofs.Ends.{NotTen, all_not_ten, digits_not_ten, ends_ten, ends_after}
 
-blanks_not_ten : (n : ℕ) → All NotTen (replicate n 32)
+blanks_not_ten : (n : ℕ) → AllByRecursion NotTen (replicate n 32)
 blanks_not_ten zero = tt
 blanks_not_ten (suc n) = ((λ e. omega arith), blanks_not_ten n)
 
@@ -34,7 +34,7 @@ line_ends s limits plan i h =
     ends_after (replicate (indent s i) 32) (blanks_not_ten (indent s i))
     (ends_after (decimal i) (digits_not_ten i (omega arith)) (ends_after (codes " ") (all_not_ten (codes " ") refl) (decision_ends (byte plan i))))
 
-signed_not_ten : (z : ℤ) → mag z < 2 ^ 63 → All NotTen (signed_decimal z)
+signed_not_ten : (z : ℤ) → mag z < 2 ^ 63 → AllByRecursion NotTen (signed_decimal z)
 signed_not_ten (pos n) h = digits_not_ten n (omega arith)
 signed_not_ten (negsuc n) h = ((λ e. omega arith), digits_not_ten (suc n) (omega arith))
 

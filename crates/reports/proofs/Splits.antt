@@ -1,13 +1,13 @@
 -- Two equal lists that begin with what passes a test, and go on with what does not, are equal part by part; decimal digits.
 use Rattle.std.proofs.Common.{◌≡◌, ℕ, ◌+◌, ◌%◌, ◌^◌, ◌<◌, ◌≤◌, List, [], ◌∷◌, ◌++◌, get_or, decimal, sym, refl, ap, subst, arith}
-use Rattle.std.specs.List.{AllByRecursion as All}
+use Rattle.std.specs.List.{AllByRecursion}
 use Rattle.std.proofs.lemmas.Fmt.{decimal_by_steps, decimal_injective}
 use Rattle.std.proofs.ByRecursion.{All-append}
 
 first_of : (a b : List ℕ) → a ≡ b → get_or a 0 0 ≡ get_or b 0 0
 first_of a b e = ap (λ l. get_or l 0 0) e
 
-pub split_same : (P : ℕ → Type 0) (xs ys a b : List ℕ) → All P xs → All P ys → (P (get_or a 0 0) → ⊥) → (P (get_or b 0 0) → ⊥) → xs ++ a ≡ ys ++ b → (xs ≡ ys) × (a ≡ b)
+pub split_same : (P : ℕ → Type 0) (xs ys a b : List ℕ) → AllByRecursion P xs → AllByRecursion P ys → (P (get_or a 0 0) → ⊥) → (P (get_or b 0 0) → ⊥) → xs ++ a ≡ ys ++ b → (xs ≡ ys) × (a ≡ b)
 split_same P [] [] a b p q na nb e = (refl, e)
 split_same P [] (y ∷ ys) a b p q na nb e = absurd (na (subst P (sym (first_of a (y ∷ (ys ++ b)) e)) q.0))
 split_same P (x ∷ xs) [] a b p q na nb e = absurd (nb (subst P (first_of (x ∷ (xs ++ a)) b e) p.0))
@@ -19,9 +19,9 @@ split_same P (x ∷ xs) (y ∷ ys) a b p q na nb e =
     (cc, rest.1)
 
 -- the bytes of a number in decimal digits
-pub digits : (n : ℕ) → n < 2 ^ 64 → All (λ b. (48 ≤ b) × (b ≤ 57)) (decimal n)
+pub digits : (n : ℕ) → n < 2 ^ 64 → AllByRecursion (λ b. (48 ≤ b) × (b ≤ 57)) (decimal n)
 digits n fits =
-    decimal_by_steps (λ m ds. All (λ b. (48 ≤ b) × (b ≤ 57)) ds)
+    decimal_by_steps (λ m ds. AllByRecursion (λ b. (48 ≤ b) × (b ≤ 57)) ds)
     (λ m h. ((omega arith, omega arith), tt))
     (λ m ds h all. All-append (λ b. (48 ≤ b) × (b ≤ 57)) ds ((48 + m % 10) ∷ []) all ((omega arith, omega arith), tt))
     n fits

@@ -1,7 +1,7 @@
 -- Different words make different texts, and byte 10 stands only after them.
 use Rattle.std.proofs.Common.{◌≡◌, ℕ, ◌^◌, ◌<◌, ◌≤◌, List, [], ◌∷◌, ◌++◌, get_or, decimal, sym, refl, ap, ◌∙◌, subst, arith}
 use lib.Utf8.{encode}
-use Rattle.std.specs.List.{AllByRecursion as All}
+use Rattle.std.specs.List.{AllByRecursion}
 use Rattle.std.proofs.lemmas.Fmt.{decimal_nonempty}
 use Rattle.std.proofs.ByRecursion.{All-append, All-weaker, All-get_or}
 use Rattle.std.proofs.lemmas.List.{get_or_append_left}
@@ -29,7 +29,7 @@ no_letter n c a b fits low high e =
     let both = ap (λ l. get_or l 0 0) e in
     omega arith
 
-pub words_same : (ws vs : List Word) → All Plain ws → All Plain vs → words ws (10 ∷ []) ≡ words vs (10 ∷ []) → ws ≡ vs
+pub words_same : (ws vs : List Word) → AllByRecursion Plain ws → AllByRecursion Plain vs → words ws (10 ∷ []) ≡ words vs (10 ∷ []) → ws ≡ vs
 words_same [] [] p q e = refl
 words_same [] (num n ∷ vs) p q e = let z : ◌≡◌ {A = ℕ} 10 32 = cc in absurd (omega arith)
 words_same [] (sign c ∷ vs) p q e = let z : ◌≡◌ {A = ℕ} 10 32 = cc in absurd (omega arith)
@@ -57,13 +57,13 @@ words_same (sign c ∷ ws) (sign d ∷ vs) p q e =
     ap (λ x. sign x ∷ ws) r.0 ∙ ap (λ l. sign d ∷ l) (words_same ws vs p.1 q.1 r.1)
 
 -- words have no byte 10
-pub words_end : (ws : List Word) → All Plain ws → EndsOnce (words ws (10 ∷ []))
+pub words_end : (ws : List Word) → AllByRecursion Plain ws → EndsOnce (words ws (10 ∷ []))
 words_end [] p = ends_ten
 words_end (num n ∷ ws) p =
     let small = p.0 in
     ends_after (32 ∷ []) (all_not_ten (32 ∷ []) refl) (ends_after (decimal n) (digits_not_ten n (omega arith)) (words_end ws p.1))
 words_end (sign c ∷ ws) p =
     let capital = p.0 in
-    let Letter : List ℕ → Type 0 = All NotTen in
+    let Letter : List ℕ → Type 0 = AllByRecursion NotTen in
     ends_after (32 ∷ []) (all_not_ten (32 ∷ []) refl)
     (ends_after (encode c) (subst Letter (sym (encode_ascii c (omega arith))) ((λ e. omega arith), tt)) (words_end ws p.1))

@@ -1,6 +1,6 @@
 -- What the order of a report's lines comes to: every component once, under its parent, and by number.
 use Rattle.std.specs.Prelude.{◌≡◌, ℕ, ◌+◌, ◌<◌, ◌≤◌, List, ◌∷◌, ◌++◌, length, Some, count_by, nat_eq}
-use Rattle.std.specs.List.{AllByRecursion as All}
+use Rattle.std.specs.List.{AllByRecursion}
 use Rattle.model.specs.Studies.{Model, Limits}
 use Rattle.plans.specs.Postings.{component}
 use Rattle.plans.specs.Questions.{count}
@@ -18,7 +18,7 @@ pub record Follows (s : Model) (Between : ℕ → Type 0) (p i : ℕ) : Type 0 w
   pub between : List ℕ
   pub after : List ℕ
   pub all : order s ≡ before ++ p ∷ (between ++ i ∷ after)
-  pub only : All Between between
+  pub only : AllByRecursion Between between
 
 pub record LinesInOrder (s : Model) : Type 0 where
   -- every component has exactly one line, and there are no other lines

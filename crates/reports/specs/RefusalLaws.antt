@@ -1,6 +1,6 @@
 -- What the lines of refusals come to: byte 10 stands once, at the end, and different refusals have different lines.
 use Rattle.std.specs.Prelude.{◌≡◌, ℕ, ◌<◌, ◌≤◌}
-use Rattle.std.specs.List.{AllByRecursion as All}
+use Rattle.std.specs.List.{AllByRecursion}
 use Rattle.model.specs.declared.refusal.Refusal.{Refusal}
 use Rattle.model.specs.Refusals.{Word, num, sign, said}
 use Rattle.reports.specs.LineEnds.{EndsOnce}
@@ -14,7 +14,7 @@ Plain (sign c) = (65 ≤ c) × (c ≤ 90)
 
 -- what a refusal carries is plain: the letter of a fault's book is one from A to Z
 abbrev pub IsPlain : Refusal → Type 0
-IsPlain r = All Plain (said r).carried
+IsPlain r = AllByRecursion Plain (said r).carried
 
 pub record RefusalLinesApart : Type 0 where
   pub ends_once : (r : Refusal) → IsPlain r → EndsOnce (refusal_line r)

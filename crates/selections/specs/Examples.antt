@@ -3,7 +3,7 @@
 -- The plan 2, 4: component 0 is repaired at echelon 1; component 1 comes out there, is moved on, and repaired at 2.
 -- To the first, a discard of component 1 at echelon 1 is added that nothing asks for: the parent was not repaired there.
 use Rattle.std.specs.Prelude.{ℕ, false, ◌&&◌, ◌||◌, List, [], ◌∷◌, ℤ, pos, ◌==◌}
-use Rattle.std.specs.List.{AllByRecursion as All}
+use Rattle.std.specs.List.{AllByRecursion}
 use Rattle.costs.specs.Amounts.{money}
 use Rattle.model.specs.declared.question.RepairOption.{RepairOption}
 use Rattle.model.specs.declared.question.RepairOption.TheVariants.{Discard, Repair, Move}
@@ -50,5 +50,5 @@ pub record Agrees (x : Example) : Type 0 where
   pub costs : SelectionCosts money study_x book_x (selecting x.options) x.cost
 
 pub record ExamplesAgree : Type 0 where
-  pub each_agrees : All Agrees examples
+  pub each_agrees : AllByRecursion Agrees examples
   pub superfluous_is_not : Consistent study_x book_x (selecting with_superfluous) → ⊥

@@ -1,7 +1,7 @@
 -- The bound of some marks: the walk's cost with the held pairs' postings is the cost that the argument speaks of.
 use Rattle.std.proofs.Common.{◌≡◌, ℕ, ◌<◌, ◌≤◌, Bool, true, false, cond, List, [], ◌∷◌, ◌++◌, length, Some, None, Option, sym, refl, ap, ◌∙◌, subst, ap₂, arith}
 use mathlib.Core.List.{map-append}
-use Rattle.std.specs.List.{AllByRecursion as All}
+use Rattle.std.specs.List.{AllByRecursion}
 use Rattle.costs.specs.Postings.{Within, most}
 use Rattle.costs.specs.Kinds.{Adding, Laws}
 use Rattle.model.specs.Studies.{Model}
@@ -29,7 +29,7 @@ bare_length : (es : List Entry) → length (bare es) ≡ length es
 bare_length [] = refl
 bare_length (e ∷ es) = let ih = bare_length es in omega arith
 
-bare_within : (es : List Entry) → All Within (bare es)
+bare_within : (es : List Entry) → AllByRecursion Within (bare es)
 bare_within [] = tt
 bare_within (e ∷ es) = (e.within, bare_within es)
 

@@ -1,6 +1,6 @@
 -- Two rows of bytes, read up to the first place where they differ, compare by number as their bytes there.
 use Rattle.std.proofs.Common.{◌≡◌, ℕ, suc, ◌+◌, ◌*◌, ◌<◌, ◌≤◌, ltb, List, [], ◌∷◌, ◌++◌, length, get_or, take, drop, sym, refl, ap, ◌∙◌, subst, ⊎_elim, arith, length-drop, take-append-drop, get_or-drop, drop-cons, w8, Fits}
-use Rattle.std.specs.List.{AllByRecursion as All}
+use Rattle.std.specs.List.{AllByRecursion}
 use Rattle.std.proofs.ByRecursion.{All-from_get_or}
 use Rattle.std.proofs.lemmas.Bool.{lt-ltb, le-ltb, cases_order}
 use Rattle.plans.specs.Orders.{rank}
@@ -23,7 +23,7 @@ split_at xs i h = ap (row_number rank 0) (sym (take-append-drop i xs)) ∙ numbe
 module _ (xs ys : List ℕ) (same : length xs ≡ length ys) (i : ℕ) (h : i < length xs) (equal : take i xs ≡ take i ys) where
   lower_there : ((n : ℕ) → Fits w8 (get_or xs n 0)) → get_or xs i 0 < get_or ys i 0 → row_number rank 0 xs < row_number rank 0 ys
   lower_there fits l =
-      let all : All (λ b. b ≤ 255) (drop (suc i) xs) = All-from_get_or (λ b. b ≤ 255) (drop (suc i) xs) 0 (λ n g. let e = get_or-drop (suc i) xs n 0 in omega (arith, (fits (suc i + n)).fits)) in
+      let all : AllByRecursion (λ b. b ≤ 255) (drop (suc i) xs) = All-from_get_or (λ b. b ≤ 255) (drop (suc i) xs) 0 (λ n g. let e = get_or-drop (suc i) xs n 0 in omega (arith, (fits (suc i + n)).fits)) in
       let a = length-drop (suc i) xs in
       let b = length-drop (suc i) ys in
       let e = ap (row_number rank 0) equal in

@@ -1,7 +1,7 @@
 -- What holds of every trial.
 use Rattle.std.specs.Prelude.{◌≡◌, ℕ, ◌<◌, true, List, [], ◌∷◌, length, ℤ, Result, FitsSigned, ◌≢◌, int_lt}
 use Rattle.std.specs.Int.{w64}
-use Rattle.std.specs.List.{AllByRecursion as All}
+use Rattle.std.specs.List.{AllByRecursion}
 use Rattle.costs.specs.Amounts.{money}
 use Rattle.model.specs.declared.refusal.Refusal.{Refusal}
 use Rattle.model.specs.Studies.{Model}
@@ -57,4 +57,4 @@ MadeInTurn s file (t ∷ ts) left = (next : List ℕ) × Made s file t next × M
 abbrev pub TrialsLeaveNoTrace : Type 0
 TrialsLeaveNoTrace =
     (s : Model) (file left : List ℕ) (trials : List Trial)
-    → MadeInTurn s file trials left → All (λ t. Made s file t file) trials × (left ≡ file)
+    → MadeInTurn s file trials left → AllByRecursion (λ t. Made s file t file) trials × (left ≡ file)
