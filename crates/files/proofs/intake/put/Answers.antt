@@ -7,7 +7,7 @@ use Rattle.files.proofs.intake.put.Goals as goal
 
 pub returns-in-78 : goal.returns-in-78
 returns-in-78 c =
-    let e = c.on-answer.ensures (model c.open.new.self) ∙ ap (accepted c.args.at) c.open.ensures in
+    let e = c.on_answer.ensures (model c.open.new.self) ∙ ap (accepted c.args.at) c.open.ensures in
     search rules
 
 pub returns-in-67-2 : goal.returns-in-67-2
@@ -15,6 +15,6 @@ returns-in-67-2 c =
     let s = model c.args.study.now in
     let r = c.args.record.now in
     let number : byte r 1 ≡ length s.components = search rules in
-    c.on-answer-in-67-2.ensures (model c.enter.new.self)
+    c.on_answer-in-67-2.ensures (model c.enter.new.self)
     ∙ ap (accepted c.args.at) c.enter.ensures
     ∙ component_put s c.args.at r _ _ c.in-67.is number (rest_needs r) c.rate.ensures

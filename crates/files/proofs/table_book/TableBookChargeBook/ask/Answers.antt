@@ -9,8 +9,8 @@ use Rattle.files.proofs.RecordLists.{part_record, part_length, records_more, rec
 use Rattle.files.proofs.ChargeLists.{charges_push}
 use Rattle.files.proofs.table_book.TableBookChargeBook.ask.Goals as goal
 
-pub charge-for-requires : goal.charge-for-requires
-charge-for-requires c = part_length c.args.self.now.bytes.now c.loop-k.k c.loop-k-test.true
+pub charge_for-requires : goal.charge_for-requires
+charge_for-requires c = part_length c.args.self.now.bytes.now c.loop-k.k c.loop-k-test.true
 
 pub loop-k-preserved : goal.loop-k-preserved
 loop-k-preserved c =
