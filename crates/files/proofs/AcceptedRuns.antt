@@ -1,6 +1,6 @@
 -- Whole files: what is accepted, stage by stage, and that it is accepted.
 use Rattle.std.proofs.Common.{◌≡◌, ℕ, zero, suc, ◌+◌, ◌%◌, ◌<◌, ◌≤◌, ◌&&◌, eqb, leb, List, [], ◌∷◌, ◌++◌, length, get_or, Ok, sym, refl, ap, ◌∙◌, subst, inl, inr, arith}
-use Rattle.std.specs.List.{AllByRecursion as All}
+use Rattle.std.specs.List.{AllByRecursion}
 use Rattle.std.proofs.lemmas.Bool.{and_parts, eqb-true, leb-true}
 use Rattle.model.specs.declared.refusal.Refusal.TheVariants as no
 use Rattle.model.specs.Studies.{Model, blank_study, on_open}
@@ -33,7 +33,7 @@ module _ (at : ℕ) (t : State) (r : List ℕ) (rs : List (List ℕ)) where
   go_on u m e h = ap (λ o. and_then o (λ v. run (at + 1) v rs)) e ∙ h
 
 -- the stage of charges: only T and F, and the study stays
-charges_run : (rs : List (List ℕ)) (at : ℕ) (s m : Model) → run at (at_stage Charges s) rs ≡ Ok m → All IsCharge rs × (s ≡ m)
+charges_run : (rs : List (List ℕ)) (at : ℕ) (s m : Model) → run at (at_stage Charges s) rs ≡ Ok m → AllByRecursion IsCharge rs × (s ≡ m)
 charges_run [] at s m h = (tt, same_ok h)
 charges_run (r ∷ rs) at s m h =
     let on = going_on at (at_stage Charges s) r rs m h in
@@ -41,7 +41,7 @@ charges_run (r ∷ rs) at s m h =
     let more = charges_run rs (at + 1) s m (ap (λ t. run (at + 1) t rs) here.1 ∙ on.2) in
     ((here.0, more.0), more.1)
 
-run_charges : (rs : List (List ℕ)) (at : ℕ) (s : Model) → All IsCharge rs → run at (at_stage Charges s) rs ≡ Ok s
+run_charges : (rs : List (List ℕ)) (at : ℕ) (s : Model) → AllByRecursion IsCharge rs → run at (at_stage Charges s) rs ≡ Ok s
 run_charges [] at s all = refl
 run_charges (r ∷ rs) at s all = go_on at (at_stage Charges s) r rs (at_stage Charges s) s (charge_taken Charges s at r refl refl all.0) (run_charges rs (at + 1) s all.1)
 
@@ -50,8 +50,8 @@ record Parted (s : Model) (rs : List (List ℕ)) (m : Model) : Type 0 where
   components : List (List ℕ)
   charges : List (List ℕ)
   in_order : rs ≡ components ++ charges
-  then_c : All IsC components
-  then_t_and_f : All IsCharge charges
+  then_c : AllByRecursion IsC components
+  then_t_and_f : AllByRecursion IsCharge charges
   numbered : NumberedFrom (length s.components) components
   enters : Entered s components m
 
@@ -94,11 +94,11 @@ components_run (r ∷ rs) at s m h =
           }
     ]
 
-run_charges_first : (rs : List (List ℕ)) (at : ℕ) (s : Model) → All IsCharge rs → run at (at_stage Components s) rs ≡ Ok s
+run_charges_first : (rs : List (List ℕ)) (at : ℕ) (s : Model) → AllByRecursion IsCharge rs → run at (at_stage Components s) rs ≡ Ok s
 run_charges_first [] at s all = refl
 run_charges_first (r ∷ rs) at s all = go_on at (at_stage Components s) r rs (at_stage Charges s) s (charge_taken Components s at r refl refl all.0) (run_charges rs (at + 1) s all.1)
 
-run_components : {s m : Model} {cs : List (List ℕ)} (ts : List (List ℕ)) (at : ℕ) → Entered s cs m → All IsC cs → NumberedFrom (length s.components) cs → All IsCharge ts → run at (at_stage Components s) (cs ++ ts) ≡ Ok m
+run_components : {s m : Model} {cs : List (List ℕ)} (ts : List (List ℕ)) (at : ℕ) → Entered s cs m → AllByRecursion IsC cs → NumberedFrom (length s.components) cs → AllByRecursion IsCharge ts → run at (at_stage Components s) (cs ++ ts) ≡ Ok m
 run_components ts at (none s) cs-are numbered ts-are = run_charges_first ts at s ts-are
 run_components ts at (next s u m n r rs e more) cs-are numbered ts-are =
     let one = entered_one s (byte r 2) (needs_of r) (rate_of r) n u e in

@@ -1,6 +1,6 @@
 -- A file of N and C alone that is accepted is the file that write makes of its study.
 use Rattle.std.proofs.Common.{◌≡◌, ℕ, ◌+◌, ◌⊎◌, List, [], ◌∷◌, ◌++◌, length, sym, refl, ap, ◌∙◌, subst, inl, inr, append_assoc, append-nil, arith}
-use Rattle.std.specs.List.{AllByRecursion as All}
+use Rattle.std.specs.List.{AllByRecursion}
 use Rattle.model.specs.declared.component.Component.{Component}
 use Rattle.model.specs.Studies.{Model, entered, blank_study}
 use Rattle.files.specs.Records.{byte, letter_c, records, needs_of, rate_of}
@@ -26,7 +26,7 @@ record Grown (s : Model) (rs : List (List ℕ)) (t : Model) : Type 0 where
   grows : study_of s.echelons s.resources (s.components ++ more) ≡ t
   same : component_records (length s.components) more ≡ rs
 
-all_back : {s t : Model} {rs : List (List ℕ)} → Entered s rs t → All Readable rs → All IsC rs → NumberedFrom (length s.components) rs → Grown s rs t
+all_back : {s t : Model} {rs : List (List ℕ)} → Entered s rs t → AllByRecursion Readable rs → AllByRecursion IsC rs → NumberedFrom (length s.components) rs → Grown s rs t
 all_back (none s) readable are numbered = record { more = []; grows = ap (study_of s.echelons s.resources) (append-nil s.components); same = refl }
 all_back (next s u t x r rs e later) readable are numbered =
     let n = length s.components in
@@ -53,7 +53,7 @@ uncharged r (inl n) (inr f) = omega (arith, f.of_kind)
 uncharged r (inr c) (inl t) = omega (arith, t.of_kind)
 uncharged r (inr c) (inr f) = omega (arith, f.of_kind)
 
-none_charged : (cs ts : List (List ℕ)) → All IsNOrC (cs ++ ts) → All (λ r. IsT r ⊎ IsF r) ts → cs ++ ts ≡ cs
+none_charged : (cs ts : List (List ℕ)) → AllByRecursion IsNOrC (cs ++ ts) → AllByRecursion (λ r. IsT r ⊎ IsF r) ts → cs ++ ts ≡ cs
 none_charged cs [] only are = append-nil cs
 none_charged [] (t ∷ ts) only are = absurd (uncharged t only.0 are.0)
 none_charged (c ∷ cs) (t ∷ ts) only are = ap (λ rs. c ∷ rs) (none_charged cs (t ∷ ts) only.1 are)
@@ -63,9 +63,9 @@ records_back : (file : List ℕ) (s : Model) → Bytes file → NoCharges file �
 records_back file s small only a =
     let e = byte a.opening 1 in
     let q = byte a.opening 2 in
-    let left = none_charged a.components a.charges (subst (All IsNOrC) a.in_order only).1 a.then_t_and_f in
+    let left = none_charged a.components a.charges (subst (AllByRecursion IsNOrC) a.in_order only).1 a.then_t_and_f in
     let are : records file ≡ a.opening ∷ a.components = a.in_order ∙ ap (λ rs. a.opening ∷ rs) left in
-    let readable = subst (All Readable) are (records_readable file small) in
+    let readable = subst (AllByRecursion Readable) are (records_readable file small) in
     let enters = subst (λ u. Entered u a.components s) (sym (opened_is blank_study e q a.opened a.opens)) a.enters in
     let grown = all_back enters readable.1 a.then_c (λ i l. omega (arith, a.numbered i l)) in
     ap written_records (sym grown.grows)

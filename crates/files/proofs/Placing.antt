@@ -1,18 +1,18 @@
 -- A place that records are written into, one after another.
 use Rattle.std.proofs.Common.{◌≡◌, ℕ, ◌+◌, ◌*◌, ◌<◌, List, [], ◌++◌, length, get_or, take, drop, sym, ap, ◌∙◌, append_assoc, arith}
 use borrow.Rule.Slice.PartMut.{put_mid}
-use Rattle.std.specs.List.{AllByRecursion as All}
+use Rattle.std.specs.List.{AllByRecursion}
 use Rattle.std.proofs.lemmas.List.{take_at, drop_at, drop-drop, take_more, flat_map_more, length-take-le}
 use Rattle.std.proofs.ByRecursion.{All-take}
 use Rattle.files.specs.Writes.{in_a_row}
 use Rattle.files.proofs.RecordRows.{Whole, row_length}
 
 -- the first records have 24 bytes each
-front_length : (rs : List (List ℕ)) (at : ℕ) → All Whole rs → at < length rs → length (in_a_row (take at rs)) ≡ 24 * at
+front_length : (rs : List (List ℕ)) (at : ℕ) → AllByRecursion Whole rs → at < length rs → length (in_a_row (take at rs)) ≡ 24 * at
 front_length rs at whole l = omega (arith, row_length (take at rs) (All-take Whole at rs whole), length-take-le at rs (omega arith))
 
 -- record number `at` is written into the `width` bytes from byte `from` on of a place that has the records before it
-pub row_more : (rs : List (List ℕ)) (at : ℕ) (place before r : List ℕ) (from width : ℕ) → All Whole rs → at < length rs → from ≡ 24 * at → width ≡ 24 → place ≡ in_a_row (take at rs) ++ drop (24 * at) before → r ≡ get_or rs at [] → put_mid from width place r ≡ in_a_row (take (at + 1) rs) ++ drop (24 * (at + 1)) before
+pub row_more : (rs : List (List ℕ)) (at : ℕ) (place before r : List ℕ) (from width : ℕ) → AllByRecursion Whole rs → at < length rs → from ≡ 24 * at → width ≡ 24 → place ≡ in_a_row (take at rs) ++ drop (24 * at) before → r ≡ get_or rs at [] → put_mid from width place r ≡ in_a_row (take (at + 1) rs) ++ drop (24 * (at + 1)) before
 row_more rs at place before r from width whole l here wide inv e =
     let front = in_a_row (take at rs) in
     let size : length front ≡ from = omega (arith, front_length rs at whole l) in

@@ -1,6 +1,6 @@
 -- Records one after another are a file that has these records, and a file is its records one after another.
 use Rattle.std.proofs.Common.{◌≡◌, ℕ, zero, suc, ◌+◌, ◌*◌, ◌/◌, ◌%◌, ◌<◌, ◌≤◌, List, [], ◌∷◌, ◌++◌, length, get_or, take, drop, sym, refl, ap, ◌∙◌, subst, inl, inr, add-one, arith, length-append}
-use Rattle.std.specs.List.{AllByRecursion as All}
+use Rattle.std.specs.List.{AllByRecursion}
 use Rattle.std.proofs.lemmas.List.{take_at, drop_at, drop-drop, take-take, drop-take, take-append-drop, take_all, flat_map_more, ext_get_or, get_or_past}
 use Rattle.std.proofs.ByRecursion.{All-get_or, All-from_get_or, All-take, All-drop}
 use Rattle.std.proofs.lemmas.Bool.{cases_lt}
@@ -13,12 +13,12 @@ use Rattle.files.proofs.RecordLists.{part_record, part_length, records_length, r
 abbrev pub Whole : List ℕ → Type 0
 Whole r = length r ≡ 24
 
-pub row_length : (rs : List (List ℕ)) → All Whole rs → length (in_a_row rs) ≡ 24 * length rs
+pub row_length : (rs : List (List ℕ)) → AllByRecursion Whole rs → length (in_a_row rs) ≡ 24 * length rs
 row_length [] whole = refl
 row_length (r ∷ rs) whole = omega (arith, length-append r (in_a_row rs), whole.0, row_length rs whole.1)
 
 -- record i of records one after another
-row_record : (rs : List (List ℕ)) (i : ℕ) → All Whole rs → i < length rs → record_at (in_a_row rs) i ≡ get_or rs i []
+row_record : (rs : List (List ℕ)) (i : ℕ) → AllByRecursion Whole rs → i < length rs → record_at (in_a_row rs) i ≡ get_or rs i []
 row_record [] i whole l = absurd (omega arith)
 row_record (r ∷ rs) zero whole l = take_at r (in_a_row rs) 24 whole.0
 row_record (r ∷ rs) (suc i) whole l =
@@ -30,7 +30,7 @@ row_record (r ∷ rs) (suc i) whole l =
     ∙ row_record rs i whole.1 (omega arith)
 
 -- their records
-pub row_records : (rs : List (List ℕ)) → All Whole rs → records (in_a_row rs) ≡ rs
+pub row_records : (rs : List (List ℕ)) → AllByRecursion Whole rs → records (in_a_row rs) ≡ rs
 row_records rs whole =
     let file = in_a_row rs in
     let size = row_length rs whole in
@@ -76,7 +76,7 @@ record_readable file small i l =
     let below : ℕ → Type 0 = λ b. b < 256 in
     (ap length (sym (part_record file i)) ∙ part_length file i l, byte_small (record_at file i) (All-take below 24 (drop (24 * i) file) (All-drop below (24 * i) file small)))
 
-pub records_readable : (file : List ℕ) → Bytes file → All Readable (records file)
+pub records_readable : (file : List ℕ) → Bytes file → AllByRecursion Readable (records file)
 records_readable file small =
     let count = records_length file in
     All-from_get_or Readable (records file) [] (λ i l. let here : i < length file / 24 = omega arith in subst Readable (sym (records_read file i here)) (record_readable file small i here))

@@ -1,6 +1,6 @@
 -- A study that is written is accepted, and makes the same study.
 use Rattle.std.proofs.Common.{◌≡◌, ℕ, suc, ◌+◌, ◌<◌, ◌≤◌, true, leb, List, [], ◌∷◌, ◌++◌, length, get_or, Some, None, Ok, Option, sym, refl, ap, ◌∙◌, subst, append_assoc, append-nil, arith, length-append}
-use Rattle.std.specs.List.{AllByRecursion as All}
+use Rattle.std.specs.List.{AllByRecursion}
 use Rattle.std.proofs.lemmas.List.{get_or_append_left, get_or_at, length_push}
 use Rattle.std.proofs.lemmas.Bool.{ltb-true, leb-true, and_parts}
 use Rattle.model.specs.declared.component.Component.{Component}
@@ -52,7 +52,7 @@ module _ (e q : ℕ) where
       (subst (λ cs. Entered (study_of e q (done ++ c ∷ [])) (component_records (n + 1) todo) (study_of e q cs)) all rest)
 
 -- all of them are C
-components_are_c : (i : ℕ) (cs : List Component) → All IsC (component_records i cs)
+components_are_c : (i : ℕ) (cs : List Component) → AllByRecursion IsC (component_records i cs)
 components_are_c i [] = tt
 components_are_c i (c ∷ cs) = (component_is_c i c, components_are_c (i + 1) cs)
 

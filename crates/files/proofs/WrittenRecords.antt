@@ -1,6 +1,6 @@
 -- The records that write makes of a study: how many, how long, which stands where, and when all are written.
 use Rattle.std.proofs.Common.{◌≡◌, ℕ, zero, suc, ◌+◌, ◌*◌, ◌<◌, ◌≤◌, true, leb, List, [], ◌∷◌, ◌++◌, length, get_or, take, drop, Ok, Result, refl, ap, ◌∙◌, add-one, arith}
-use Rattle.std.specs.List.{AllByRecursion as All}
+use Rattle.std.specs.List.{AllByRecursion}
 use Rattle.std.proofs.lemmas.List.{take_all}
 use Rattle.std.proofs.lemmas.Slice.{drop-append-drop}
 use Rattle.std.proofs.lemmas.Bool.{le-leb}
@@ -15,7 +15,7 @@ pub components_count : (i : ℕ) (cs : List Component) → length (component_rec
 components_count i [] = refl
 components_count i (c ∷ cs) = ap suc (components_count (i + 1) cs)
 
-components_whole : (i : ℕ) (cs : List Component) → All Whole (component_records i cs)
+components_whole : (i : ℕ) (cs : List Component) → AllByRecursion Whole (component_records i cs)
 components_whole i [] = tt
 components_whole i (c ∷ cs) = (refl, components_whole (i + 1) cs)
 
@@ -29,7 +29,7 @@ components_read i (c ∷ cs) d (suc k) j l e = components_read (i + 1) cs d k j 
 pub written_count : (s : Model) → length (written_records s) ≡ length s.components + 1
 written_count s = omega (arith, components_count 0 s.components)
 
-pub written_whole : (s : Model) → All Whole (written_records s)
+pub written_whole : (s : Model) → AllByRecursion Whole (written_records s)
 written_whole s = (refl, components_whole 0 s.components)
 
 -- after the N comes the C of the first component, and so on

@@ -1,6 +1,6 @@
 -- What an accepted file is, and the study that it makes.
 use Rattle.std.specs.Prelude.{◌≡◌, ℕ, ◌%◌, ◌<◌, ◌≤◌, ◌⊎◌, List, [], ◌∷◌, ◌++◌, length, Ok, slice_index_or}
-use Rattle.std.specs.List.{AllByRecursion as All}
+use Rattle.std.specs.List.{AllByRecursion}
 use Rattle.model.specs.declared.question.RepairOption.{RepairOption}
 use Rattle.model.specs.Letters.{letter}
 use Rattle.model.specs.Studies.{Model, blank_study, on_open, on_enter}
@@ -51,8 +51,8 @@ pub record Accepted (file : List ℕ) (study : Model) : Type 0 where
   pub charges : List (List ℕ)
   pub in_order : records file ≡ opening ∷ (components ++ charges)
   pub first_n : IsN opening
-  pub then_c : All IsC components
-  pub then_t_and_f : All (λ r. IsT r ⊎ IsF r) charges
+  pub then_c : AllByRecursion IsC components
+  pub then_t_and_f : AllByRecursion (λ r. IsT r ⊎ IsF r) charges
   -- the C are numbered 0, 1, 2, ..
   pub numbered : (i : ℕ) → i < length components → byte (slice_index_or components i []) 1 ≡ i
   -- open accepts the N on a blank study, enter accepts each C in its turn, and this makes the study

@@ -1,6 +1,6 @@
 -- Writing and reading back: a study makes a file that makes the study, and a file of N and C makes a study that makes the file.
 use Rattle.std.specs.Prelude.{◌≡◌, ℕ, ◌<◌, ◌⊎◌, List, Ok}
-use Rattle.std.specs.List.{AllByRecursion as All}
+use Rattle.std.specs.List.{AllByRecursion}
 use Rattle.model.specs.Studies.{Model, Limits}
 use Rattle.files.specs.Records.{kind, letter_n, letter_c, records}
 use Rattle.files.specs.Intakes.{taken_in}
@@ -12,14 +12,14 @@ WrittenStudiesReadBack = (s : Model) → Limits s → taken_in (written s) ≡ O
 
 -- bytes are numbers below 256
 abbrev pub Bytes : List ℕ → Type 0
-Bytes file = All (λ b. b < 256) file
+Bytes file = AllByRecursion (λ b. b < 256) file
 
 -- no T and no F: each record is an N or a C
 abbrev pub IsNOrC : List ℕ → Type 0
 IsNOrC r = (kind r ≡ letter_n) ⊎ (kind r ≡ letter_c)
 
 abbrev pub NoCharges : List ℕ → Type 0
-NoCharges file = All IsNOrC (records file)
+NoCharges file = AllByRecursion IsNOrC (records file)
 
 -- every file of N and C alone that is accepted, taken in and written back, is the same file, byte for byte
 abbrev pub AcceptedFilesWriteBack : Type 0
