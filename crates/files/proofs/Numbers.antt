@@ -1,6 +1,6 @@
 -- Numbers in big-endian bytes: what was read, written again, gives the bytes, and what was written, read again, the number.
-use Rattle.std.proofs.Common.{◌≡◌, ℕ, zero, suc, ◌+◌, ◌*◌, ◌/◌, ◌%◌, ◌^◌, ◌<◌, List, [], ◌∷◌, ◌++◌, map, sym, refl, ap, ◌∙◌, ap₂, add-zero, mod-eq_of_lt, add-one, arith}
-use native.Mathlib.Nat.{mul-add-div_right, mul-add-mod_self_right, div-div-eq-div-mul, div-eq_of_lt, pow-succ'}
+use Rattle.std.proofs.Common.{◌≡◌, ℕ, zero, suc, ◌+◌, ◌*◌, ◌/◌, ◌%◌, ◌^◌, ◌<◌, List, [], ◌∷◌, ◌++◌, map, sym, refl, ap, ◌∙◌, ap₂, add-one, arith}
+use native.Mathlib.Nat.{div-div-eq-div-mul, pow-succ'}
 use Rattle.std.specs.List.{range_with_len}
 use Rattle.std.proofs.lemmas.List.FromFn.{map-range_with_len_more}
 use Rattle.files.specs.Records.{byte, number_at}

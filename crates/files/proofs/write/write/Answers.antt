@@ -1,4 +1,4 @@
-use Rattle.std.proofs.Common.{◌≡◌, ◌+◌, ◌<◌, [], length, get_or, sym, ap, ◌∙◌, arith, rules}
+use Rattle.std.proofs.Common.{◌≡◌, ◌+◌, ◌<◌, length, get_or, sym, ap, ◌∙◌, arith, rules}
 use Rattle.model.specs.declared.component.Component.{Component}
 use Rattle.model.specs.Components.{no_component}
 use Rattle.model.specs.Studies.{model}
