@@ -1,6 +1,6 @@
 -- Every posting is within its limits.
 use Rattle.std.proofs.Common.{ℕ, suc, ◌*◌, ◌≤◌, List, [], ◌∷◌, length, ℤ, pos, negsuc, ◌*ℤ◌, neg_ℤ, ◌≤ℤ◌, Some, None, Option, inl, inr, arith}
-use Rattle.std.specs.List.{AllByRecursion as All}
+use Rattle.std.specs.List.{AllByRecursion}
 use Rattle.std.proofs.lemmas.Nat.{mul-le}
 use Rattle.std.proofs.lemmas.List.{get_or_past}
 use Rattle.std.proofs.lemmas.Int.{ints}
@@ -68,10 +68,10 @@ pub posting_within : (s : Model) (b : Book) → Limits s → KeepsLimits b → (
 posting_within s b l k (OfOption i e o) = option_answer (component s i).rate i e o (b (OfOption i e o)) (few_failures s i l) (k (OfOption i e o))
 posting_within s b l k (OfResource r e) = resource_answer r e (b (OfResource r e)) (k (OfResource r e))
 
-within_more : (p : Option Posting) (ps : List Posting) → WithinIf p → All Within ps → All Within (add_posting p ps)
+within_more : (p : Option Posting) (ps : List Posting) → WithinIf p → AllByRecursion Within ps → AllByRecursion Within (add_posting p ps)
 within_more None ps w all = all
 within_more (Some p) ps w all = (w, all)
 
-pub postings_within : (s : Model) (b : Book) → Limits s → KeepsLimits b → (qs : List Question) → All Within (postings_for s b qs)
+pub postings_within : (s : Model) (b : Book) → Limits s → KeepsLimits b → (qs : List Question) → AllByRecursion Within (postings_for s b qs)
 postings_within s b l k [] = tt
 postings_within s b l k (q ∷ qs) = within_more (posting s b q) (postings_for s b qs) (posting_within s b l k q) (postings_within s b l k qs)

@@ -1,6 +1,6 @@
 -- The laws that say what the definitions of starts, uses, postings and prices come to.
 use Rattle.std.specs.Prelude.{◌≡◌, ℕ, ◌<◌, ◌≤◌, true, List, [], ◌∷◌, ◌++◌, length, None}
-use Rattle.std.specs.List.{AllByRecursion as All}
+use Rattle.std.specs.List.{AllByRecursion}
 use Rattle.costs.specs.Kinds.{Adding}
 use Rattle.costs.specs.Postings.{Within, most}
 use Rattle.model.specs.declared.question.Question.{Question}
@@ -34,7 +34,7 @@ StartIsRead =
 abbrev pub PostingsFit : Type 0
 PostingsFit =
     (s : Model) (b : Book) (plan : List ℕ)
-    → Limits s → KeepsLimits b → All Within (postings s b plan) × (length (postings s b plan) ≤ most)
+    → Limits s → KeepsLimits b → AllByRecursion Within (postings s b plan) × (length (postings s b plan) ≤ most)
 
 -- a plan uses what the question asks about
 abbrev pub UsesIt : Model → List ℕ → Question → Type 0
