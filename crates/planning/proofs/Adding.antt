@@ -1,6 +1,6 @@
 -- Postings added to a sum: one, and one list after another.
 use Rattle.std.proofs.Common.{◌≡◌, ℕ, ◌+◌, ◌≤◌, Bool, List, [], ◌∷◌, ◌++◌, length, Some, None, Option, sym, refl, ap, ◌∙◌, subst, append_assoc, append-nil, arith, length-append}
-use Rattle.std.specs.List.{AllByRecursion as All}
+use Rattle.std.specs.List.{AllByRecursion}
 use Rattle.costs.specs.declared.posting.Posting.{Posting}
 use Rattle.costs.specs.Kinds.{Adding, SumOf, one, join}
 use Rattle.costs.specs.Postings.{Within, most}
@@ -9,7 +9,7 @@ use Rattle.plans.proofs.Joined.{sums_append}
 use Rattle.planning.specs.Sums.{Summable, Adds, if_used}
 
 -- what holds of each of two joined lists
-all_parts : {A : Type 0} (P : A → Type 0) (xs ys : List A) → All P (xs ++ ys) → All P xs × All P ys
+all_parts : {A : Type 0} (P : A → Type 0) (xs ys : List A) → AllByRecursion P (xs ++ ys) → AllByRecursion P xs × AllByRecursion P ys
 all_parts P [] ys all = (tt, all)
 all_parts P (x ∷ xs) ys all = let rest = all_parts P xs ys all.1 in ((all.0, rest.0), rest.1)
 
@@ -26,14 +26,14 @@ module _ {C : Type 0} (k : Adding C) where
   counted_more n None p w counted = let e : 1 ≡ n + 1 = omega (arith, counted) in subst (λ m. SumOf k m (k.post p)) e (one p w)
   counted_more n (Some c) p w counted = join n 1 c (k.post p) counted (one p w)
 
-  counted_all : (ps : List Posting) (n : ℕ) (sum : Option C) → All Within ps → Counted n sum → Counted (n + length ps) (plus_postings k sum ps)
+  counted_all : (ps : List Posting) (n : ℕ) (sum : Option C) → AllByRecursion Within ps → Counted n sum → Counted (n + length ps) (plus_postings k sum ps)
   counted_all [] n sum all counted = let e : n ≡ n + 0 = omega arith in subst (λ m. Counted m sum) e counted
   counted_all (p ∷ ps) n sum all counted =
       let e : n + 1 + length ps ≡ n + length (p ∷ ps) = omega arith in
       subst (λ m. Counted m (plus_postings k sum (p ∷ ps))) e (counted_all ps (n + 1) (plus_posting k sum p) all.1 (counted_more n sum p all.0 counted))
 
   -- a sum of postings within their limits is one of as many postings
-  sum_of : (ps : List Posting) (c : C) → All Within ps → summed k ps ≡ Some c → SumOf k (length ps) c
+  sum_of : (ps : List Posting) (c : C) → AllByRecursion Within ps → summed k ps ≡ Some c → SumOf k (length ps) c
   sum_of ps c all is =
       let n : 0 + length ps ≡ length ps = omega arith in
       subst (λ m. SumOf k m c) n (subst (Counted (0 + length ps)) is (counted_all ps 0 None all refl))

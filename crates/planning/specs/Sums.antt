@@ -1,6 +1,6 @@
 -- What is added to a sum: the postings of a component or a resource, by its row of the survey.
 use Rattle.std.specs.Prelude.{◌≡◌, ℕ, ◌≤◌, Bool, true, false, List, [], ◌++◌, length, None, Option, slice_index_or}
-use Rattle.std.specs.List.{AllByRecursion as All}
+use Rattle.std.specs.List.{AllByRecursion}
 use Rattle.costs.specs.declared.posting.Posting.{Posting}
 use Rattle.costs.specs.Kinds.{Adding}
 use Rattle.costs.specs.Postings.{Within, most}
@@ -19,7 +19,7 @@ use Rattle.planning.specs.Surveys.{no_choices, Keeps}
 
 -- postings that every cost kind can sum
 abbrev pub Summable : List Posting → Type 0
-Summable ps = All Within ps × (length ps ≤ most)
+Summable ps = AllByRecursion Within ps × (length ps ≤ most)
 
 -- `Adds k sum new r`: of whatever postings the sum is, r is the sum of those and the new ones after them
 abbrev pub Adds : {C : Type 0} → Adding C → Option C → List Posting → Option C → Type 0

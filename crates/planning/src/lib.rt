@@ -1,5 +1,6 @@
 // Planning: the survey of a book, the decision of a byte, and the price of a plan.
 #![tactic(auto)]
+
 mod checks;
 pub mod decision;
 pub mod laws;

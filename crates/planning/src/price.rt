@@ -18,8 +18,8 @@ pub fn price<B: ChargeBook, K: CostKind>(
     kind: &K,
     plan: &[u8],
 ) -> Result<K::Cost, Refusal>
-    ensures answer { result ≡ priced adding (model study.now) (meaning book.now) plan.now }
-    ensures accepts_exactly_plans { Ready (model study.now) (meaning book.now) plan.now → AcceptsExactlyPlans adding (model study.now) (meaning book.now) plan.now result }
+    ensures answer { result ≡ priced K.adding (model study.now) (B.meaning book.now) plan.now }
+    ensures accepts_exactly_plans { Ready (model study.now) (B.meaning book.now) plan.now → AcceptsExactlyPlans K.adding (model study.now) (B.meaning book.now) plan.now result }
 {
     let count = study.components().len();
     if count == 0 {

@@ -63,7 +63,7 @@ fn option_posting<B: ChargeBook>(
     option: RepairOption,
 ) -> Result<Option<Posting>, Fault>
     requires { rate ≤ 1_000_000 }
-    ensures { Learned rate (meaning book.now (OfOption number echelon option)) result }
+    ensures { Learned rate (B.meaning book.now (OfOption number echelon option)) result }
 {
     learned(
         rate,
@@ -83,7 +83,7 @@ fn choices_at<B: ChargeBook>(
     echelon: u8,
 ) -> Result<Choices, Fault>
     requires { number < count (model study.now) }
-    ensures { AskedChoices (model study.now) (meaning book.now) number echelon result }
+    ensures { AskedChoices (model study.now) (B.meaning book.now) number echelon result }
 {
     if echelon > study.echelons() {
         return Ok(NO_CHOICES);
@@ -106,7 +106,7 @@ fn choices_at<B: ChargeBook>(
 // Asks for a component's options at each echelon.
 fn option_row<B: ChargeBook>(study: &Study, book: &B, number: u8) -> Result<OptionRow, Fault>
     requires { number < count (model study.now) }
-    ensures { AskedOptionRow (model study.now) (meaning book.now) number result }
+    ensures { AskedOptionRow (model study.now) (B.meaning book.now) number result }
 {
     Ok(OptionRow {
         echelons: [
@@ -120,7 +120,7 @@ fn option_row<B: ChargeBook>(study: &Study, book: &B, number: u8) -> Result<Opti
 
 // Asks for the options of each component.
 fn option_rows<B: ChargeBook>(study: &Study, book: &B) -> Result<[OptionRow; 60], Fault>
-    ensures { AskedOptions (model study.now) (meaning book.now) result }
+    ensures { AskedOptions (model study.now) (B.meaning book.now) result }
 {
     let mut rows = [OptionRow {
         echelons: [NO_CHOICES; 4],
@@ -138,7 +138,7 @@ fn pair_posting<B: ChargeBook>(
     resource: u8,
     echelon: u8,
 ) -> Result<Option<Posting>, Fault>
-    ensures { AskedPair (model study.now) (meaning book.now) resource echelon result }
+    ensures { AskedPair (model study.now) (B.meaning book.now) resource echelon result }
 {
     if echelon > study.echelons() {
         return Ok(None);
@@ -148,7 +148,7 @@ fn pair_posting<B: ChargeBook>(
 
 // Asks for a resource at each echelon.
 fn resource_row<B: ChargeBook>(study: &Study, book: &B, resource: u8) -> Result<ResourceRow, Fault>
-    ensures { AskedResourceRow (model study.now) (meaning book.now) resource result }
+    ensures { AskedResourceRow (model study.now) (B.meaning book.now) resource result }
 {
     Ok(ResourceRow {
         echelons: [
@@ -162,7 +162,7 @@ fn resource_row<B: ChargeBook>(study: &Study, book: &B, resource: u8) -> Result<
 
 // Asks for each resource.
 fn resource_rows<B: ChargeBook>(study: &Study, book: &B) -> Result<[ResourceRow; 8], Fault>
-    ensures { AskedResources (model study.now) (meaning book.now) result }
+    ensures { AskedResources (model study.now) (B.meaning book.now) result }
 {
     let mut rows = [ResourceRow {
         echelons: [None; 4],
@@ -175,7 +175,7 @@ fn resource_rows<B: ChargeBook>(study: &Study, book: &B) -> Result<[ResourceRow;
 
 // Asks every question of the study: first for the options, then for the resources.
 pub fn survey<B: ChargeBook>(study: &Study, book: &B) -> Result<Survey, Fault>
-    ensures { Surveyed (model study.now) (meaning book.now) result }
+    ensures { Surveyed (model study.now) (B.meaning book.now) result }
 {
     let options = option_rows(study, book)?;
     let resources = resource_rows(study, book)?;

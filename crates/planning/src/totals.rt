@@ -24,7 +24,7 @@ pub(crate) fn total<K: CostKind>(
     survey: &Survey,
     plan: &[u8],
 ) -> Option<K::Cost>
-    ensures { (b : Book) → KeepsLimits b → Keeps (model study.now) b survey.now → result ≡ summed adding (postings (model study.now) b plan.now) }
+    ensures { (b : Book) → KeepsLimits b → Keeps (model study.now) b survey.now → result ≡ summed K.adding (postings (model study.now) b plan.now) }
 {
     let options = options_total(kind, study, survey, plan);
     plus_pairs(kind, options, study, survey, plan)
@@ -37,7 +37,7 @@ fn options_total<K: CostKind>(
     survey: &Survey,
     plan: &[u8],
 ) -> Option<K::Cost>
-    ensures { AddsUsed adding (model study.now) survey.now plan.now None (option_questions (model study.now)) result }
+    ensures { AddsUsed K.adding (model study.now) survey.now plan.now None (option_questions (model study.now)) result }
 {
     let mut sum = None;
     for (number, component) in study.components().iter().enumerate() {
@@ -55,7 +55,7 @@ fn plus_pairs<K: CostKind>(
     survey: &Survey,
     plan: &[u8],
 ) -> Option<K::Cost>
-    ensures { AddsUsed adding (model study.now) survey.now plan.now options (pair_questions (model study.now)) result }
+    ensures { AddsUsed K.adding (model study.now) survey.now plan.now options (pair_questions (model study.now)) result }
 {
     let mut sum = options;
     for resource in 0..study.resources() {
@@ -72,7 +72,7 @@ fn plus_component<K: CostKind>(
     route: Route,
     row: &OptionRow,
 ) -> Option<K::Cost>
-    ensures { Adds adding sum (of_component route.start route.byte row.now) result }
+    ensures { Adds K.adding sum (of_component route.start route.byte row.now) result }
 {
     let [first, second, third, fourth] = row.echelons;
     let sum = plus_echelon(kind, sum, route, 1, first);
@@ -89,7 +89,7 @@ fn plus_echelon<K: CostKind>(
     echelon: u8,
     choices: Choices,
 ) -> Option<K::Cost>
-    ensures { Adds adding sum (at_echelon route.start route.byte echelon choices) result }
+    ensures { Adds K.adding sum (at_echelon route.start route.byte echelon choices) result }
 {
     let discards = route.uses(echelon, RepairOption::Discard);
     let repairs = route.uses(echelon, RepairOption::Repair);
@@ -108,7 +108,7 @@ fn plus_resource<K: CostKind>(
     resource: u8,
     row: &ResourceRow,
 ) -> Option<K::Cost>
-    ensures { Adds adding sum (of_resource (λ e. uses (model study.now) plan.now (OfResource resource e)) row.now) result }
+    ensures { Adds K.adding sum (of_resource (λ e. uses (model study.now) plan.now (OfResource resource e)) row.now) result }
 {
     let [first, second, third, fourth] = row.echelons;
     let sum = plus_used(kind, sum, is_needed(study, plan, resource, 1), first);
@@ -137,7 +137,7 @@ pub fn plus_used<K: CostKind>(
     used: bool,
     posting: Option<Posting>,
 ) -> Option<K::Cost>
-    ensures { Adds adding sum (if_used used posting) result }
+    ensures { Adds K.adding sum (if_used used posting) result }
 {
     match posting {
         Some(posting) if used => plus(kind, sum, posting),
@@ -147,7 +147,7 @@ pub fn plus_used<K: CostKind>(
 
 // Adds one posting to a sum. An empty sum has no cost of its own.
 fn plus<K: CostKind>(kind: &K, sum: Option<K::Cost>, posting: Posting) -> Option<K::Cost>
-    ensures { Adds adding sum (posting ∷ []) result }
+    ensures { Adds K.adding sum (posting ∷ []) result }
 {
     let next = kind.posting(posting);
     match sum {

@@ -7,8 +7,8 @@ pub returns : goal.returns
 returns c b kept =
     let study = c.args.study.now in
     objection_same (model study) b c.args.survey.now c.args.plan.now c.args.number (limited study) kept c.requires
-    c.component-of-component.result c.of-route.result c.echelons.result c.resources.result
-    c.options-open-options.result c.resources-open-resources.result c.first_failed.result
-    c.component-of-component.ensures c.of-route.ensures.start c.of-route.ensures.byte
+    c.component_of-component.result c.of-route.result c.echelons.result c.resources.result
+    c.options_open-options.result c.resources_open-resources.result c.first_failed.result
+    c.component_of-component.ensures c.of-route.ensures.start c.of-route.ensures.byte
     c.echelons.ensures c.resources.ensures
-    c.options-open-options.ensures c.resources-open-resources.ensures c.first_failed.ensures
+    c.options_open-options.ensures c.resources_open-resources.ensures c.first_failed.ensures

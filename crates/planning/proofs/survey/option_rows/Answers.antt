@@ -13,13 +13,13 @@ use Rattle.planning.proofs.survey.option_rows.Goals as goal
 pub loop-number-init : goal.loop-number-init
 loop-number-init g c = (refl, refl, λ i h. absurd (omega arith))
 
-pub returns-in-err-rows : goal.returns-in-err-rows
-returns-in-err-rows g c =
+pub returns-in_err-rows : goal.returns-in_err-rows
+returns-in_err-rows g c =
     let s = c.args.study.now in
     let i = c.loop-number.number in
     let h : i < count (model s) = omega (arith, ap length c.components-number-end.ensures, c.loop-number-test.true) in
-    let p = err_from_is_err_and c.from-residual.result c.from-residual.ensures.1 in
-    rw (p.1, p.2) (upto_stops (g.B.ChargeBook.meaning c.args.book.now) (component_questions s.echelons) (count (model s)) i h c.loop-number.invariant.1 c.in-err-rows.ensures)
+    let p = err_from_is_err_and c.from_residual.result c.from_residual.ensures.1 in
+    rw (p.1, p.2) (upto_stops (g.B.ChargeBook.meaning c.args.book.now) (component_questions s.echelons) (count (model s)) i h c.loop-number.invariant.1 c.in_err-rows.ensures)
 
 pub loop-number-preserved : goal.loop-number-preserved
 loop-number-preserved g c =
@@ -29,8 +29,8 @@ loop-number-preserved g c =
     let rows = c.loop-number.rows in
     let h : i < length rows = omega (arith, ap length c.components-number-end.ensures, c.loop-number-test.true, c.loop-number.invariant.0, (limited s).few_components) in (
       simp length-set c.loop-number.invariant.0,
-      upto_more b (component_questions s.echelons) i c.loop-number.invariant.1 c.in-ok-rows.ensures.0,
-      rows_more (option_row (model s) b) rows i c.in-ok-rows.field-0 no_options h c.loop-number.invariant.2 c.in-ok-rows.ensures.1,
+      upto_more b (component_questions s.echelons) i c.loop-number.invariant.1 c.in_ok-rows.ensures.0,
+      rows_more (option_row (model s) b) rows i c.in_ok-rows.field-0 no_options h c.loop-number.invariant.2 c.in_ok-rows.ensures.1,
     )
 
 pub returns : goal.returns

@@ -22,7 +22,7 @@ loop-number-preserved g c =
     let starts = start_read s plan _ i _ lent c.loop-number-test.true _ c.of-route.ensures.start in
     used_more g.K.CostKind.adding s plan t (component_questions s.echelons) None _ _ i _
     (component_kept s plan t (limited c.args.study.now) i _ _ h starts c.of-route.ensures.byte)
-    c.loop-number.invariant c.plus-component-sum.ensures
+    c.loop-number.invariant c.plus_component-sum.ensures
 
 pub returns : goal.returns
 returns g c =

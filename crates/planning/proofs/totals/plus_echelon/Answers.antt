@@ -10,6 +10,6 @@ returns g c =
     let k = g.K.CostKind.adding in
     let used : RepairOption → Bool = uses_at c.args.route.start c.args.route.byte c.args.echelon in
     adds_three k _ _ _ _ _ _ _
-    (adds_if k _ _ _ (used Discard) _ c.uses-discards.ensures c.plus-used-sum.ensures)
-    (adds_if k _ _ _ (used Repair) _ c.uses-repairs.ensures c.plus-used-sum-2.ensures)
-    (adds_if k _ _ _ (used Move) _ c.uses-moves.ensures c.plus-used.ensures)
+    (adds_if k _ _ _ (used Discard) _ c.uses-discards.ensures c.plus_used-sum.ensures)
+    (adds_if k _ _ _ (used Repair) _ c.uses-repairs.ensures c.plus_used-sum-2.ensures)
+    (adds_if k _ _ _ (used Move) _ c.uses-moves.ensures c.plus_used.ensures)

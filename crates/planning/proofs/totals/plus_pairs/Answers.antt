@@ -19,7 +19,7 @@ loop-resource-preserved g c =
     let h : r < s.resources = omega (arith, c.loop-resource-test.true, c.resources-resource-end.ensures) in
     used_more g.K.CostKind.adding s plan t (resource_questions s.echelons) c.args.options _ _ r _
     (resource_kept s plan t (limited c.args.study.now) r _ h c.from.ensures)
-    c.loop-resource.invariant c.plus-resource-sum.ensures
+    c.loop-resource.invariant c.plus_resource-sum.ensures
 
 pub returns : goal.returns
 returns g c =

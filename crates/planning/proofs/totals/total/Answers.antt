@@ -6,4 +6,4 @@ use Rattle.planning.proofs.totals.total.Goals as goal
 pub returns : goal.returns
 returns g c =
     let study = c.args.study.now in
-    plan_total g.K.CostKind.adding (model study) c.args.plan.now c.args.survey.now (limited study) _ _ c.options-total-options.ensures c.plus-pairs.ensures
+    plan_total g.K.CostKind.adding (model study) c.args.plan.now c.args.survey.now (limited study) _ _ c.options_total-options.ensures c.plus_pairs.ensures
