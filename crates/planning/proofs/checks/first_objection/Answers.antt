@@ -16,7 +16,7 @@ returns-in-Some c b kept =
 pub loop-number-preserved : goal.loop-number-preserved
 loop-number-preserved c b kept =
     let s = model c.args.study.now in
-    none_more (objection s b c.args.plan.now) c.loop-number.number (c.loop-number.invariant b kept) (c.in-default.ensures b kept)
+    none_more (objection s b c.args.plan.now) c.loop-number.number (c.loop-number.invariant b kept) (c.in_default.ensures b kept)
 
 pub returns : goal.returns
 returns c b kept =

@@ -34,7 +34,7 @@ returns g c =
     let ready : Ready s b bytes = record { some_component = omega arith; enough_bytes = omega arith; no_fault = found.0 } in
     let same = ap (λ n. take n bytes) (omega (arith, entered)) in
     let sum = c.total.ensures b (g.B.ChargeBook.limited c.args.book.now) found.1 in
-    let answer = c.ok_or.ensures.value ∙ costed k s b bytes _ same ready c.total.result (c.in-default.ensures b found.1) sum in
+    let answer = c.ok_or.ensures.value ∙ costed k s b bytes _ same ready c.total.result (c.in_default.ensures b found.1) sum in
     record {
       answer = answer;
       accepts_exactly_plans = λ _. subst (AcceptsExactlyPlans k s b bytes) (sym answer) (accepts_exactly_plans _ k s b bytes (limited c.args.study.now) ready);
