@@ -1,5 +1,5 @@
 -- The answers of price, once the survey has met no fault.
-use Rattle.std.proofs.Common.{◌≡◌, ℕ, List, take, Some, None, Err, Option, Result, sym, refl, ap, ◌∙◌}
+use Rattle.std.proofs.Common.{◌≡◌, ℕ, List, take, Some, None, Err, Option, sym, refl, ap, ◌∙◌}
 use Rattle.std.specs.Option.{ok_or}
 use Rattle.costs.specs.Kinds.{Adding}
 use Rattle.model.specs.declared.refusal.Refusal.{Refusal}

@@ -1,5 +1,5 @@
 -- What a plan is, and what it costs.
-use Rattle.std.specs.Prelude.{◌≡◌, ℕ, ◌<◌, ◌≤◌, true, List, length, Some, Option}
+use Rattle.std.specs.Prelude.{◌≡◌, ℕ, ◌<◌, ◌≤◌, true, List, length, Some}
 use Rattle.costs.specs.declared.posting.Posting.{Posting}
 use Rattle.costs.specs.Kinds.{Adding}
 use Rattle.model.specs.declared.question.Question.{Question}

@@ -1,5 +1,5 @@
 -- What is posted for an option or a resource that a plan uses, over a thousand years.
-use Rattle.std.specs.Prelude.{ℕ, ◌*◌, List, [], ◌∷◌, ◌++◌, pos, ◌*ℤ◌, Some, None, Option, slice_index_or}
+use Rattle.std.specs.Prelude.{ℕ, ◌*◌, List, [], ◌∷◌, pos, ◌*ℤ◌, Some, None, Option, slice_index_or}
 use Rattle.costs.specs.declared.posting.Posting.{Posting}
 use Rattle.costs.specs.Kinds.{Adding}
 use Rattle.model.specs.declared.question.Question.{Question}

@@ -1,5 +1,5 @@
 -- What pricing answers: the questions in their order, each refused with its own refusal, and then the cost.
-use Rattle.std.specs.Prelude.{◌≡◌, ℕ, ◌*◌, ◌≤◌, Bool, true, false, cond, not, ◌&&◌, ◌||◌, List, length, take, Some, None, Ok, Err, Option, Result, nat_le}
+use Rattle.std.specs.Prelude.{◌≡◌, ℕ, ◌*◌, ◌≤◌, Bool, true, false, cond, not, ◌||◌, List, length, take, Some, None, Ok, Err, Option, Result, nat_le}
 use Rattle.costs.specs.Kinds.{Adding}
 use Rattle.model.specs.declared.answer.Fault.{Fault}
 use Rattle.model.specs.declared.question.Question.{Question}

@@ -1,7 +1,6 @@
-use Rattle.std.proofs.Common.{◌≡◌, ◌-◌, length, take, sym, ap, ◌∙◌, subst, arith}
+use Rattle.std.proofs.Common.{length, take, sym, ap, ◌∙◌, subst, arith}
 use Rattle.model.specs.Studies.{model}
 use Rattle.model.proofs.Limited.{limited}
-use Rattle.plans.specs.Questions.{count}
 use Rattle.plans.specs.Prices.{Ready, AcceptsExactlyPlans}
 use Rattle.plans.proofs.Pricing.{accepts_exactly_plans}
 use Rattle.planning.proofs.Answered.{objected, costed}
