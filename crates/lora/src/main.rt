@@ -31,10 +31,7 @@ enum Task {
 fn task_of(words: &[String]) -> Option<Task> {
     match words {
         [] => Some(Task::Solve),
-        [option] => match option.as_str() {
-            "--help" => Some(Task::Help),
-            _ => None,
-        },
+        [option, ..] if option.as_str() == "--help" => Some(Task::Help),
         [option, record, amount] if option.as_str() == "--try" => {
             match (record.parse::<usize>(), amount.parse::<i64>()) {
                 (Ok(record), Ok(amount)) => Some(Task::Try { record, amount }),
@@ -65,8 +62,10 @@ fn main(rt: HostRuntime) -> anyhow::Result<()> {
         }
         Some(task) => task,
         None => {
-            eprintln!(rt; "lora: these are no arguments of lora: see --help")?;
-            return Err(anyhow!("no such arguments"));
+            if let Some(word) = words.first() {
+                eprintln!(rt; "lora: '{word}' is no argument of lora: see --help")?;
+            }
+            return Err(anyhow!("no such argument"));
         }
     };
     let mut file = Vec::new(rt.alloc());
@@ -78,7 +77,10 @@ fn main(rt: HostRuntime) -> anyhow::Result<()> {
         }
         Printed::Refusal(text) => {
             rt.stdout().write_all(text.as_slice())?;
-            Err(anyhow!("the file or the trial is refused, or has no plan"))
+            Err(match task {
+                Task::Try { .. } => anyhow!("the trial or the file is refused, or has no plan"),
+                _ => anyhow!("the file is refused, or has no plan"),
+            })
         }
     }
 }
