@@ -19,7 +19,7 @@ use Rattle.theory.proofs.Problems.{bytewise}
 use Rattle.theory.proofs.Solves.{Settles}
 use Rattle.solutions.specs.Problems.{problem}
 use Rattle.solutions.specs.Promises.{SolvesLeast, SolvesLeastAndFirst}
-use Rattle.solutions.specs.Solved.{bytes, least_plan, Outcome, answered, solved}
+use Rattle.solutions.specs.Solved.{bytes, least_plan, Outcome, answered}
 use Rattle.solutions.proofs.Answering.{ready_answers}
 use Rattle.solutions.proofs.Judging.{open_costs, open_is_plan, plan_is_open}
 use Rattle.solutions.proofs.Bytes.{bytes_in_order}

@@ -1,6 +1,6 @@
 -- A study with a book as the solver's argument sees it: components counted from 1, pairs by number, and postings within
 -- their limits.
-use Rattle.std.specs.Prelude.{◌≡◌, ℕ, suc, pred, ◌*◌, ◌≤◌, Bool, cond, not, ◌&&◌, Some, None, Option, ◌==◌, nat_le, refl}
+use Rattle.std.specs.Prelude.{ℕ, suc, pred, ◌*◌, Bool, cond, not, ◌&&◌, Some, None, Option, ◌==◌, nat_le}
 use Rattle.std.specs.Option.{unwrap_or}
 use Rattle.costs.specs.declared.posting.Posting.{Posting}
 use Rattle.model.specs.declared.question.Question.{Question}

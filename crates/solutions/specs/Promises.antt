@@ -8,7 +8,7 @@ use Rattle.model.specs.Studies.{Model, Limits}
 use Rattle.plans.specs.Questions.{count, questions, first_fault}
 use Rattle.plans.specs.Plans.{IsPlan, Costs}
 use Rattle.plans.specs.Orders.{Before}
-use Rattle.solutions.specs.Solved.{Outcome, solved}
+use Rattle.solutions.specs.Solved.{solved}
 
 -- a component is entered, the places are long enough, and the survey meets no fault
 pub record Ready (s : Model) (b : Book) (room : ℕ) (place : List ℕ) : Type 0 where
