@@ -1,5 +1,6 @@
 // The charge books: the price book, and the layers that stand over another book.
 #![tactic(auto)]
+
 mod echelon;
 mod gross;
 pub mod laws;

@@ -3,8 +3,8 @@ use Rattle.books.specs.Gross.{gross}
 use Rattle.books.proofs.Grossing.{under_from}
 use Rattle.books.proofs.gross.+gross_price.Given as goal
 
-abbrev pub decreases-gross-price : goal.decreases-gross-price
-decreases-gross-price l = length l.rows.now - l.row
+abbrev pub decreases-gross_price : goal.decreases-gross_price
+decreases-gross_price l = length l.rows.now - l.row
 
 abbrev pub invariant-loop-child : goal.invariant-loop-child
 invariant-loop-child l = l.sum + under_from l.row l.rows l.child ≡ gross l.rows l.row

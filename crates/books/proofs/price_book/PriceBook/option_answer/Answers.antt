@@ -4,8 +4,8 @@ use Rattle.books.specs.PriceRows.{no_row, AtMost, at_most}
 use Rattle.books.proofs.Ranging.{row_found}
 use Rattle.books.proofs.price_book.PriceBook.option_answer.Goals as goal
 
-pub option-cents-requires : goal.option-cents-requires
-option-cents-requires c =
+pub option_cents-requires : goal.option_cents-requires
+option_cents-requires c =
     let b = c.args.self.now in
     let xs = b.rows.items in
     let i = c.args.component in
