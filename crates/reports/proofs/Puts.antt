@@ -1,7 +1,7 @@
 -- Texts that are put into a place one after another.
 use Rattle.std.proofs.Common.{◌≡◌, ℕ, ◌+◌, ◌≤◌, List, [], ◌++◌, length, drop, sym, refl, ap, ◌∙◌, subst, add-zero, zero-add, arith, length-append}
 use Rattle.std.proofs.lemmas.List.Edits.{paste-paste, paste_none, paste_all}
-use lib.Seq.{paste}
+use Rattle.std.proofs.Math.Seq.{paste}
 use Rattle.reports.specs.Places.{Room, put, Puts}
 
 -- two texts in a row are one text

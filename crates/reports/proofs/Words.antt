@@ -1,6 +1,6 @@
 -- The words of a refusal line, and what follows them.
 use Rattle.std.proofs.Common.{◌≡◌, ℕ, List, [], ◌∷◌, ◌++◌, decimal, sym, refl, ap, ◌∙◌, append_assoc}
-use lib.Utf8.{encode}
+use Rattle.std.proofs.Math.Utf8.{encode}
 use Rattle.model.specs.Refusals.{Word, num, sign}
 use Rattle.reports.specs.Lines.{words}
 

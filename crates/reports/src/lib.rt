@@ -1,5 +1,6 @@
 // What the programs print: the report of a plan and the refusal line.
 #![tactic(auto)]
+
 mod carried;
 pub mod laws;
 mod line;

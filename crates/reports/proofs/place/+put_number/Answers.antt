@@ -11,21 +11,21 @@ one_digit n h = ap length (decimal_digit n h)
 more_digits : (n : ℕ) → 10 ≤ n → n < 2 ^ 64 → length (decimal n) ≡ length (decimal (n / 10)) + 1
 more_digits n h fits = ap length (decimal_step n h fits) ∙ length_push (decimal (n / 10)) (48 + n % 10)
 
-pub put-bytes-requires : goal.put-bytes-requires
-put-bytes-requires t c = omega (arith, one_digit c.args.number c.if-number-lt10.true)
+pub put_bytes-requires : goal.put_bytes-requires
+put_bytes-requires t c = omega (arith, one_digit c.args.number c.if-number-lt10.true)
 
 pub returns-then-number-lt10 : goal.returns-then-number-lt10
-returns-then-number-lt10 t c = puts_same (sym (decimal_digit c.args.number c.if-number-lt10.true)) c.put-bytes.ensures
+returns-then-number-lt10 t c = puts_same (sym (decimal_digit c.args.number c.if-number-lt10.true)) c.put_bytes.ensures
 
-pub put-number-end-requires : goal.put-number-end-requires
-put-number-end-requires t c = (search rules, omega (arith, more_digits c.args.number c.if-number-lt10.false (omega arith)))
+pub put_number-end-requires : goal.put_number-end-requires
+put_number-end-requires t c = (search rules, omega (arith, more_digits c.args.number c.if-number-lt10.false (omega arith)))
 
-pub put-bytes-requires-2 : goal.put-bytes-requires-2
-put-bytes-requires-2 t c = omega (arith, more_digits c.args.number c.if-number-lt10.false (omega arith), c.put-number-end.ensures.ends)
+pub put_bytes-requires-2 : goal.put_bytes-requires-2
+put_bytes-requires-2 t c = omega (arith, more_digits c.args.number c.if-number-lt10.false (omega arith), c.put_number-end.ensures.ends)
 
 pub returns : goal.returns
 returns t c =
     let n = c.args.number in
     let fits : n < 2 ^ 64 = omega arith in
     let room : c.args.at ≤ length c.args.place.now = omega arith in
-    puts_same (sym (decimal_step n c.if-number-lt10.false fits)) (puts_then room c.put-number-end.ensures c.put-bytes-2.ensures)
+    puts_same (sym (decimal_step n c.if-number-lt10.false fits)) (puts_then room c.put_number-end.ensures c.put_bytes-2.ensures)

@@ -1,5 +1,5 @@
 use Rattle.reports.proofs.place.+put_number.Given as goal
 
 -- one digit fewer at each call
-abbrev pub decreases-put-number : goal.decreases-put-number
-decreases-put-number l = l.number
+abbrev pub decreases-put_number : goal.decreases-put_number
+decreases-put_number l = l.number

@@ -9,5 +9,5 @@ returns c =
     let long : length bytes ≡ at + length bytes - at = omega arith in
     record {
       ends = refl;
-      holds = put_mid-paste at (at + length bytes - at) c.args.place.now c.copy-from-slice.new.self bytes (length bytes) c.copy-from-slice.ensures.after long refl;
+      holds = put_mid-paste at (at + length bytes - at) c.args.place.now c.copy_from_slice.new.self bytes (length bytes) c.copy_from_slice.ensures.after long refl;
     }

@@ -1,5 +1,5 @@
 use Rattle.std.proofs.Common.{◌≡◌, ◌<◌, ◌≤◌, false, ◌∷◌, length, ℤ, pos, negsuc, nat_abs, decimal, refl, ap, ◌∙◌, subst, arith, w64}
-use lib.Signed.{le_z}
+use Rattle.std.specs.Int.Signed.{le_z}
 use Rattle.std.specs.Fmt.{signed_decimal}
 use Rattle.std.proofs.lemmas.Int.{to_z-of_z}
 use Rattle.std.proofs.lemmas.Bool.{leb-false}
@@ -13,9 +13,9 @@ below_zero (negsuc n) h = refl
 
 pub returns : goal.returns
 returns c =
-    let start : c.args.at ≤ length c.args.place.now = omega (arith, c.put-bytes-next.ensures.ends) in
+    let start : c.args.at ≤ length c.args.place.now = omega (arith, c.put_bytes-next.ensures.ends) in
     let number = to_z-of_z w64 c.args.number c.ranges.number in
     let Below : ℤ → Type 0 = λ z. le_z (pos 0) z ≡ false in
-    let size = c.unsigned-abs-2.ensures.value ∙ ap nat_abs number in
+    let size = c.unsigned_abs-2.ensures.value ∙ ap nat_abs number in
     puts_same (below_zero c.args.number (subst Below number c.if-number-ge0.false))
-    (puts_then start c.put-bytes-next.ensures (puts_same (ap decimal size) c.put-number-2.ensures))
+    (puts_then start c.put_bytes-next.ensures (puts_same (ap decimal size) c.put_number-2.ensures))

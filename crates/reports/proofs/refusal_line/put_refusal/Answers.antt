@@ -5,32 +5,32 @@ use Rattle.reports.proofs.Puts.{puts_then, puts_same}
 use Rattle.reports.proofs.Words.{words_then}
 use Rattle.reports.proofs.refusal_line.put_refusal.Goals as goal
 
-pub put-number-carried-requires : goal.put-number-carried-requires
-put-number-carried-requires c =
+pub put_number-carried-requires : goal.put_number-carried-requires
+put_number-carried-requires c =
     let digits = length-decimal-le 3 c.from.result (omega arith) (omega arith) (omega arith) in
-    omega (arith, c.put-bytes-number.ensures.ends)
+    omega (arith, c.put_bytes-number.ensures.ends)
 
-pub put-carried-end-requires : goal.put-carried-end-requires
-put-carried-end-requires c =
+pub put_carried-end-requires : goal.put_carried-end-requires
+put_carried-end-requires c =
     let digits = length-decimal-le 3 c.from.result (omega arith) (omega arith) (omega arith) in
-    omega (arith, c.put-bytes-number.ensures.ends, c.put-number-carried.ensures.ends)
+    omega (arith, c.put_bytes-number.ensures.ends, c.put_number-carried.ensures.ends)
 
-pub put-bytes-requires : goal.put-bytes-requires
-put-bytes-requires c =
+pub put_bytes-requires : goal.put_bytes-requires
+put_bytes-requires c =
     let digits = length-decimal-le 3 c.from.result (omega arith) (omega arith) (omega arith) in
-    omega (arith, c.put-bytes-number.ensures.ends, c.put-number-carried.ensures.ends, c.put-carried-end.ensures.few)
+    omega (arith, c.put_bytes-number.ensures.ends, c.put_number-carried.ensures.ends, c.put_carried-end.ensures.few)
 
 pub returns : goal.returns
 returns c =
     let r = c.args.refusal.now in
     let digits = length-decimal-le 3 c.from.result (omega arith) (omega arith) (omega arith) in
     let start : 0 ≤ length c.args.place.now = omega arith in
-    let number : c.put-bytes-number.result ≤ length c.put-bytes-number.new.place = omega (arith, c.put-bytes-number.ensures.ends) in
-    let carried : c.put-number-carried.result ≤ length c.put-number-carried.new.place = omega (arith, c.put-bytes-number.ensures.ends, c.put-number-carried.ensures.ends) in
+    let number : c.put_bytes-number.result ≤ length c.put_bytes-number.new.place = omega (arith, c.put_bytes-number.ensures.ends) in
+    let carried : c.put_number-carried.result ≤ length c.put_number-carried.new.place = omega (arith, c.put_bytes-number.ensures.ends, c.put_number-carried.ensures.ends) in
     record {
       puts =
-          puts_then start c.put-bytes-number.ensures
-          (puts_then number (puts_same (ap decimal (c.from.ensures ∙ c.number.ensures)) c.put-number-carried.ensures)
-          (puts_same (sym (words_then (codes "\n") (said r).carried)) (puts_then carried c.put-carried-end.ensures.puts c.put-bytes.ensures)));
-      few = omega (arith, c.put-bytes-number.ensures.ends, c.put-number-carried.ensures.ends, c.put-carried-end.ensures.few, c.put-bytes.ensures.ends);
+          puts_then start c.put_bytes-number.ensures
+          (puts_then number (puts_same (ap decimal (c.from.ensures ∙ c.number.ensures)) c.put_number-carried.ensures)
+          (puts_same (sym (words_then (codes "\n") (said r).carried)) (puts_then carried c.put_carried-end.ensures.puts c.put_bytes.ensures)));
+      few = omega (arith, c.put_bytes-number.ensures.ends, c.put_number-carried.ensures.ends, c.put_carried-end.ensures.few, c.put_bytes.ensures.ends);
     }

@@ -7,10 +7,10 @@ use Rattle.reports.proofs.refusal_line.refusal_bytes.Goals as goal
 pub returns : goal.returns
 returns c =
     let line = refusal_line c.args.refusal.now in
-    let puts = c.put-refusal-end.ensures.puts in
+    let puts = c.put_refusal-end.ensures.puts in
     record {
       line =
-          front_is (replicate 40 0) line c.put-refusal-end.new.place c.put-refusal-end.result puts
+          front_is (replicate 40 0) line c.put_refusal-end.new.place c.put_refusal-end.result puts
           ∙ ap (λ l. line ++ l) (drop-replicate (length line) 40 0);
-      fits = omega (arith, front_end puts, c.put-refusal-end.ensures.few);
+      fits = omega (arith, front_end puts, c.put_refusal-end.ensures.few);
     }

@@ -9,10 +9,10 @@ use Rattle.reports.proofs.refusal_line.refusal_line.Goals as goal
 pub returns : goal.returns
 returns c =
     let line = refusal_line c.args.refusal.now in
-    let end = c.put-refusal-end.result in
-    let puts = c.put-refusal-end.ensures.puts in
+    let end = c.put_refusal-end.result in
+    let puts = c.put_refusal-end.ensures.puts in
     let cut : end - 0 ≡ length line = omega (arith, front_end puts) in
-    let read : take (end - 0) c.put-refusal-end.new.place ≡ line =
-    ap (take (end - 0)) (front_is (replicate 40 0) line c.put-refusal-end.new.place end puts) ∙ take_at line _ (end - 0) (sym cut) in
-    let Copied : Vec ℕ Global → Type 0 = λ v. ((x y : ℕ) → y ≡ x → y ≡ x) → vec_items v ≡ take (end - 0) c.put-refusal-end.new.place in
-    IfOk-weaker c.to-vec.result Copied (λ v. vec_items v ≡ line) (λ v copied. copied (λ x y e. e) ∙ read) c.to-vec.ensures.items-if-clones-equal
+    let read : take (end - 0) c.put_refusal-end.new.place ≡ line =
+    ap (take (end - 0)) (front_is (replicate 40 0) line c.put_refusal-end.new.place end puts) ∙ take_at line _ (end - 0) (sym cut) in
+    let Copied : Vec ℕ Global → Type 0 = λ v. ((x y : ℕ) → y ≡ x → y ≡ x) → vec_items v ≡ take (end - 0) c.put_refusal-end.new.place in
+    IfOk-weaker c.to_vec.result Copied (λ v. vec_items v ≡ line) (λ v copied. copied (λ x y e. e) ∙ read) c.to_vec.ensures.items_if_clones_equal

@@ -9,17 +9,17 @@ use Rattle.reports.specs.Reports.{lines}
 use Rattle.reports.proofs.report.+put_entry_put_list.Given as goal
 
 -- fewer levels lie below an entry than below the list that it stands in, and below a list than below its parent's entry
-abbrev pub decreases-put-entry : goal.decreases-put-entry
-decreases-put-entry l = 2 * (6 - (component (model l.study.now) l.number).level)
+abbrev pub decreases-put_entry : goal.decreases-put_entry
+decreases-put_entry l = 2 * (6 - (component (model l.study.now) l.number).level)
 
-abbrev pub decreases-put-list : goal.decreases-put-list
-decreases-put-list l = 2 * (6 - level_under (model l.study.now).components l.parent) + 1
+abbrev pub decreases-put_list : goal.decreases-put_list
+decreases-put_list l = 2 * (6 - level_under (model l.study.now).components l.parent) + 1
 
 -- the entries so far, of the components numbered below `from`
-abbrev pub invariant-put-list-loop-number : goal.invariant-put-list-loop-number
-invariant-put-list-loop-number l =
+abbrev pub invariant-put_list-loop-number : goal.invariant-put_list-loop-number
+invariant-put_list-loop-number l =
     (l.from ≤ count (model l.study))
     × Puts l.initial.place l.at (lines (model l.study) l.plan (listed_below (model l.study) (entry_of (model l.study)) l.parent l.from)) l.end l.place
 
-abbrev pub decreases-put-list-loop-number : goal.decreases-put-list-loop-number
-decreases-put-list-loop-number l = count (model l.study) - l.from
+abbrev pub decreases-put_list-loop-number : goal.decreases-put_list-loop-number
+decreases-put_list-loop-number l = count (model l.study) - l.from

@@ -1,5 +1,5 @@
 use Rattle.std.proofs.Common.{◌≡◌, ℕ, ◌+◌, ◌*◌, ◌^◌, ◌<◌, ◌≤◌, List, length, ℤ, Ok, sym, ap, ◌∙◌, arith, w64}
-use lib.Signed.{mag}
+use Rattle.std.specs.Int.Signed.{mag}
 use Rattle.std.proofs.lemmas.Int.{to_z-of_z}
 use Rattle.model.specs.Studies.{Model, model}
 use Rattle.model.proofs.Limited.{limited}
@@ -13,29 +13,29 @@ use Rattle.reports.proofs.Lengths.{lines_short, total_short}
 use Rattle.reports.proofs.Puts.{puts_then, puts_same, front_is, front_end}
 use Rattle.reports.proofs.report.report.Goals as goal
 
-pub put-list-end-requires : goal.put-list-end-requires
-put-list-end-requires c =
+pub put_list-end-requires : goal.put_list-end-requires
+put_list-end-requires c =
     let s = model c.args.study.now in
     let plan = c.args.plan.now in
     let limits = limited c.args.study.now in
-    let all = ap length c.components_count.ensures in
+    let all = ap length c.components-count.ensures in
     let short = lines_short s limits plan in
     let same = ap (λ is. length (lines s plan is)) (order_is s limits) in
-    (omega arith, omega arith)
+    record { study_in_bounds = omega arith; room = omega arith }
 
-pub put-total-requires : goal.put-total-requires
-put-total-requires c =
+pub put_total-requires : goal.put_total-requires
+put_total-requires c =
     let s = model c.args.study.now in
     let plan = c.args.plan.now in
     let limits = limited c.args.study.now in
-    let all = ap length c.components_count.ensures in
+    let all = ap length c.components-count.ensures in
     let short = lines_short s limits plan in
     let same = ap (λ is. length (lines s plan is)) (order_is s limits) in
     let z = c.args.cents in
     let few : mag z < 2 ^ 63 = c.ranges.cents.sfits in
     let end = total_short z few in
     let total = ap (λ y. length (total_line y)) (to_z-of_z w64 z c.ranges.cents) in
-    omega (arith, c.put-list-end.ensures.ends)
+    omega (arith, c.put_list-end.ensures.ends)
 
 -- an accepted call
 answers : (s : Model) (plan : List ℕ) (z : ℤ) (place last : List ℕ) (end : ℕ) → count s ≤ length plan → 16 * count s + 32 ≤ length place → Puts place 0 (report_text s plan z) end last → (Ok end, last) ≡ reported s plan z place
@@ -48,9 +48,9 @@ returns c =
     let s = model c.args.study.now in
     let plan = c.args.plan.now in
     let limits = limited c.args.study.now in
-    let all = ap length c.components_count.ensures in
+    let all = ap length c.components-count.ensures in
     let z = c.args.cents in
-    answers s plan z c.args.place.now c.put-total.new.place c.put-total.result (omega arith) (omega arith)
+    answers s plan z c.args.place.now c.put_total.new.place c.put_total.result (omega arith) (omega arith)
     (puts_then (omega arith)
-    (puts_same (ap (lines s plan) (sym (order_is s limits))) c.put-list-end.ensures)
-    (puts_same (ap total_line (to_z-of_z w64 z c.ranges.cents)) c.put-total.ensures))
+    (puts_same (ap (lines s plan) (sym (order_is s limits))) c.put_list-end.ensures)
+    (puts_same (ap total_line (to_z-of_z w64 z c.ranges.cents)) c.put_total.ensures))
