@@ -13,7 +13,7 @@ use std::alloc::{AllocError, Global};
 
 // Makes one call, and puts its answer in its place.
 pub fn make<B: ChargeBook, K: CostKind>(study: &mut Study, kind: &K, call: &mut Call<B, K::Cost>)
-    ensures { Step meaning adding lower (model study.old) call.old call.new (model study.new) }
+    ensures { Step B.meaning K.adding K.lower (model study.old) call.old call.new (model study.new) }
 {
     match call {
         Call::Open {
@@ -50,7 +50,7 @@ pub fn make<B: ChargeBook, K: CostKind>(study: &mut Study, kind: &K, call: &mut 
 
 // Makes the calls one after another.
 pub fn run<B: ChargeBook, K: CostKind>(study: &mut Study, kind: &K, calls: &mut [Call<B, K::Cost>])
-    ensures { Run meaning adding lower (model study.old) calls.old calls.new (model study.new) }
+    ensures { Run B.meaning K.adding K.lower (model study.old) calls.old calls.new (model study.new) }
 {
     for call in calls.iter_mut() {
         make(study, kind, call);
@@ -63,7 +63,7 @@ pub fn run_on_blank<B: ChargeBook, K: CostKind>(
     kind: &K,
     calls: &mut [Call<B, K::Cost>],
 ) -> Result<Study, AllocError>
-    ensures { MatchResult result (λ study. Run meaning adding lower blank_study calls.old calls.new (model study)) (λ _. calls.new ≡ calls.old) }
+    ensures { MatchResult result (λ study. Run B.meaning K.adding K.lower blank_study calls.old calls.new (model study)) (λ _. calls.new ≡ calls.old) }
 {
     let mut study = Study::blank(heap)?;
     run(&mut study, kind, calls);

@@ -30,7 +30,7 @@ fn plus_row<K: CostKind>(
     line: &[Mark; 4],
     row: &ResourceRow,
 ) -> Option<K::Cost>
-    ensures { Adds adding sum (of_resource (held_at line.now) row.now) result }
+    ensures { Adds K.adding sum (of_resource (held_at line.now) row.now) result }
 {
     let [first, second, third, fourth] = row.echelons;
     let sum = plus_used(kind, sum, is_held(line[0]), first);
@@ -47,7 +47,7 @@ fn plus_held<K: CostKind>(
     survey: &Survey,
     marks: &Marks,
 ) -> Option<K::Cost>
-    ensures { AddsHeld adding (model study.now) survey.now marks.now cost result }
+    ensures { AddsHeld K.adding (model study.now) survey.now marks.now cost result }
 {
     let mut sum = cost;
     for resource in 0..usize::from(study.resources()) {
@@ -64,7 +64,7 @@ pub(crate) fn bound<K: CostKind>(
     working: &mut [K::Cost],
 ) -> Best<K::Cost>
     requires { (1 ≤ count (model study.now)) × (count (model study.now) * (model study.now).echelons ≤ length working.old) }
-    ensures { Bounds adding lower (model study.now) survey.now marks.now result }
+    ensures { Bounds K.adding K.lower (model study.now) survey.now marks.now result }
 {
     let found = walk(kind, study, survey, marks, working);
     match found.cost {

@@ -26,14 +26,14 @@ fn rank(byte: u8) -> u8
 
 // Whether the cost a of a choice with byte x comes before the cost b of one with byte y.
 fn cost_precedes<K: CostKind>(kind: &K, a: K::Cost, x: u8, b: K::Cost, y: u8) -> bool
-    ensures { (m n : ℕ) → SumOf adding m a → SumOf adding n b → m ≤ most → n ≤ most → result ≡ lower a b || (not (lower b a) && nat_lt (rank x) (rank y)) }
+    ensures { (m n : ℕ) → SumOf K.adding m a → SumOf K.adding n b → m ≤ most → n ≤ most → result ≡ K.lower a b || (not (K.lower b a) && nat_lt (rank x) (rank y)) }
 {
     kind.is_lower(a, b) || (!kind.is_lower(b, a) && rank(x) < rank(y))
 }
 
 // Whether the first choice comes before the second, by cost and then by rank.
 fn precedes<K: CostKind>(kind: &K, a: Choice<K::Cost>, b: Choice<K::Cost>) -> bool
-    ensures { Precedes adding lower a b result }
+    ensures { Precedes K.adding K.lower a b result }
 {
     match (a.sum, b.sum) {
         (Sum::Cost(c), Sum::Cost(d)) => cost_precedes(kind, c, a.byte, d, b.byte),
@@ -44,7 +44,7 @@ fn precedes<K: CostKind>(kind: &K, a: Choice<K::Cost>, b: Choice<K::Cost>) -> bo
 
 // Of two choices the one that comes first, the left one where neither does.
 fn better<K: CostKind>(kind: &K, a: Choice<K::Cost>, b: Choice<K::Cost>) -> Choice<K::Cost>
-    ensures { Betters adding lower a b result }
+    ensures { Betters K.adding K.lower a b result }
 {
     if precedes(kind, b, a) { b } else { a }
 }
@@ -69,7 +69,7 @@ pub(crate) fn way_on<K: CostKind>(
     onward: Choice<K::Cost>,
 ) -> Choice<K::Cost>
     requires { (1 ≤ echelon) × (echelon ≤ 4) }
-    ensures { Leads adding lower choices echelon under onward result }
+    ensures { Leads K.adding K.lower choices echelon under onward result }
 {
     let discarded = Choice {
         byte: 2 * echelon - 1,

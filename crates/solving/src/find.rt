@@ -53,7 +53,7 @@ pub(crate) fn find<K: CostKind>(
     working: &mut [K::Cost],
 ) -> Best<K::Cost>
     requires { (1 ≤ count (model study.now)) × (count (model study.now) * (model study.now).echelons ≤ length working.old) }
-    ensures { FindsLeast adding lower (model study.now) survey.now result }
+    ensures { FindsLeast K.adding K.lower (model study.now) survey.now result }
 {
     let marks = first_marks(study, survey);
     let none = Best {

@@ -1,5 +1,6 @@
 // Solving: the least plan, first in reading order.
 #![tactic(auto)]
+
 mod allowed;
 mod best;
 mod bound;

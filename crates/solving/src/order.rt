@@ -29,7 +29,7 @@ pub(crate) fn is_ahead<K: CostKind>(
     count: usize,
 ) -> bool
     requires { count ≤ 60 }
-    ensures { Ahead adding lower count first.now second.now result }
+    ensures { Ahead K.adding K.lower count first.now second.now result }
 {
     match (first.cost, second.cost) {
         (None, _) => false,

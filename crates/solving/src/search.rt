@@ -25,7 +25,7 @@ pub(crate) fn search<K: CostKind>(
     working: &mut [K::Cost],
 ) -> Best<K::Cost>
     requires { (1 ≤ count (model study.now)) × (count (model study.now) * (model study.now).echelons ≤ length working.old) }
-    ensures { Searches adding lower (model study.now) survey.now marks best result }
+    ensures { Searches K.adding K.lower (model study.now) survey.now marks best result }
 {
     let found = bound(kind, study, survey, &marks, working);
     let count = study.components().len();

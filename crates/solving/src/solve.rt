@@ -21,9 +21,9 @@ pub fn solve<B: ChargeBook, K: CostKind>(
     plan: &mut [u8],
     working: &mut [K::Cost],
 ) -> Result<K::Cost, Refusal>
-    ensures answer { result ≡ (solved adding lower (model study.now) (meaning book.now) (length working.old) plan.old).answer }
-    ensures place { plan.new ≡ (solved adding lower (model study.now) (meaning book.now) (length working.old) plan.old).place }
-    ensures solves_least { Ready (model study.now) (meaning book.now) (length working.old) plan.old → SolvesLeast adding lower (model study.now) (meaning book.now) plan.new result }
+    ensures answer { result ≡ (solved K.adding K.lower (model study.now) (B.meaning book.now) (length working.old) plan.old).answer }
+    ensures place { plan.new ≡ (solved K.adding K.lower (model study.now) (B.meaning book.now) (length working.old) plan.old).place }
+    ensures solves_least { Ready (model study.now) (B.meaning book.now) (length working.old) plan.old → SolvesLeast K.adding K.lower (model study.now) (B.meaning book.now) plan.new result }
 {
     let count = study.components().len();
     if count == 0 {

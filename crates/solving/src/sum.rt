@@ -18,7 +18,7 @@ pub(crate) enum Sum<C: Copy> {
 
 // The sum of one posting, closed where there is none.
 pub(crate) fn posted<K: CostKind>(kind: &K, posting: Option<Posting>) -> Sum<K::Cost>
-    ensures { HoldsPosting adding posting result }
+    ensures { HoldsPosting K.adding posting result }
 {
     match posting {
         Some(posting) => Sum::Cost(kind.posting(posting)),
@@ -28,7 +28,7 @@ pub(crate) fn posted<K: CostKind>(kind: &K, posting: Option<Posting>) -> Sum<K::
 
 // The sum of two sums.
 pub(crate) fn both<K: CostKind>(kind: &K, a: Sum<K::Cost>, b: Sum<K::Cost>) -> Sum<K::Cost>
-    ensures { Joins adding a b result }
+    ensures { Joins K.adding a b result }
 {
     match (a, b) {
         (Sum::Cost(c), Sum::Cost(d)) => Sum::Cost(kind.sum(c, d)),

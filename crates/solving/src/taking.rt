@@ -45,7 +45,7 @@ fn way_at<K: CostKind>(
 ) -> Choice<K::Cost>
     requires number_bound { (number < count (model study.now)) × (echelon < (model study.now).echelons) }
     requires study_in_bounds { (count (model study.now) * (model study.now).echelons ≤ length tags.now) × (count (model study.now) * (model study.now).echelons ≤ length working.now) }
-    ensures { FindsWay adding lower (model study.now) survey.now shut.now number echelon (view tags.now working.now) onward result }
+    ensures { FindsWay K.adding K.lower (model study.now) survey.now shut.now number echelon (view tags.now working.now) onward result }
 {
     let needs = component_of(study, number).needs;
     let choices = survey.options[number].echelons[echelon];
@@ -72,7 +72,7 @@ pub(crate) fn take_component<K: CostKind>(
 ) -> Taken<K::Cost>
     requires number_bound { number < count (model study.now) }
     requires study_in_bounds { (count (model study.now) * (model study.now).echelons ≤ length tags.old) × (count (model study.now) * (model study.now).echelons ≤ length working.old) }
-    ensures { TakesOne adding lower (model study.now) survey.now shut.now number (view tags.old working.old) (view tags.new working.new) result }
+    ensures { TakesOne K.adding K.lower (model study.now) survey.now shut.now number (view tags.old working.old) (view tags.new working.new) result }
 {
     let parent = component_of(study, number).parent;
     let echelons = usize::from(study.echelons());

@@ -29,7 +29,7 @@ fn take_all<K: CostKind>(
     notes: &mut [[u8; 4]],
 ) -> Sum<K::Cost>
     requires { (count (model study.now) * (model study.now).echelons ≤ length tags.old) × ((count (model study.now) * (model study.now).echelons ≤ length working.old) × (count (model study.now) ≤ length notes.old)) }
-    ensures { TakesAll adding lower (model study.now) survey.now shut.now (view tags.old working.old) notes.new result }
+    ensures { TakesAll K.adding K.lower (model study.now) survey.now shut.now (view tags.old working.old) notes.new result }
 {
     let mut total = Sum::Nothing;
     for number in (0..study.components().len()).rev() {
@@ -49,7 +49,7 @@ pub(crate) fn walk<K: CostKind>(
     working: &mut [K::Cost],
 ) -> Best<K::Cost>
     requires { (1 ≤ count (model study.now)) × (count (model study.now) * (model study.now).echelons ≤ length working.old) }
-    ensures { Walks adding lower (model study.now) survey.now marks.now result }
+    ensures { Walks K.adding K.lower (model study.now) survey.now marks.now result }
 {
     let shut = shut_masks(marks, study.resources());
     let mut tags = [Tag::Nothing; 240];

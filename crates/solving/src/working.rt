@@ -45,7 +45,7 @@ pub(crate) fn add_above<K: CostKind>(
     working: &mut [K::Cost],
 )
     requires { (Room parent echelons echelon (length tags.old)) × ((Room parent echelons echelon (length working.old)) × ((echelons ≤ 4) × (echelon < 4))) }
-    ensures { AddsAbove adding parent echelons echelon sum (view tags.old working.old) (view tags.new working.new) }
+    ensures { AddsAbove K.adding parent echelons echelon sum (view tags.old working.old) (view tags.new working.new) }
 {
     if let Some(parent) = parent {
         let cell = usize::from(parent) * echelons + echelon;
@@ -61,7 +61,7 @@ pub(crate) fn add_top<K: CostKind>(
     total: Sum<K::Cost>,
     sum: Sum<K::Cost>,
 ) -> Sum<K::Cost>
-    ensures { AddsTop adding parent sum total result }
+    ensures { AddsTop K.adding parent sum total result }
 {
     match parent {
         Some(_) => total,
