@@ -17,8 +17,8 @@ loop-resource-preserved g c b keeps =
     let marks = c.args.marks.now in
     let i = c.loop-resource.resource in
     let h : i < s.resources = omega (arith, c.loop-resource-test.true, c.resources.ensures, c.from-resource-end.ensures) in
-    let new = subst (λ row. Adds k c.loop-resource.sum (of_resource (held_at (get_or marks i [])) row) c.plus-row-sum.result) (keeps.resources i h) c.plus-row-sum.ensures in
-    subst (λ n. Adds k c.args.cost (held_postings s b marks n) c.plus-row-sum.result) (sym (add-one i))
+    let new = subst (λ row. Adds k c.loop-resource.sum (of_resource (held_at (get_or marks i [])) row) c.plus_row-sum.result) (keeps.resources i h) c.plus_row-sum.ensures in
+    subst (λ n. Adds k c.args.cost (held_postings s b marks n) c.plus_row-sum.result) (sym (add-one i))
     (adds_then k _ _ _ (held_postings s b marks i) (of_resource (held_at (get_or marks i [])) (resource_row s b i)) (c.loop-resource.invariant b keeps) new)
 
 pub returns : goal.returns

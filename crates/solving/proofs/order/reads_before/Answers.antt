@@ -10,7 +10,7 @@ pub loop-number-preserved : goal.loop-number-preserved
 loop-number-preserved c = take_more_same c.args.first.now c.args.second.now c.loop-number.number 0 c.loop-number-test.true (omega (arith, c.requires)) c.loop-number.invariant c.if-first-number.false
 
 pub returns-then-first-number : goal.returns-then-first-number
-returns-then-first-number c = first_differing c.args.first.now c.args.second.now c.requires c.type-inv.first c.type-inv.second c.loop-number.number c.loop-number-test.true c.loop-number.invariant c.if-first-number.true
+returns-then-first-number c = first_differing c.args.first.now c.args.second.now c.requires c.type_inv.first c.type_inv.second c.loop-number.number c.loop-number-test.true c.loop-number.invariant c.if-first-number.true
 
 pub returns : goal.returns
 returns c =

@@ -3,23 +3,23 @@ use Rattle.model.specs.Studies.{model}
 use Rattle.model.proofs.Limited.{limited}
 use Rattle.solving.proofs.FreePairs.{found_free, not_free, not_needed}
 use Rattle.solving.proofs.pair.free_in_line.Goals as goal
-use Rattle.solving.proofs.pair.free_in_line.Goals.{else-is-free-via-then-is-free+else-is-needed, else-is-free-via-else-is-free}
+use Rattle.solving.proofs.pair.free_in_line.Goals.{else-is_free-via-then-is_free+else-is_needed, else-is_free-via-else-is_free}
 
 pub loop-place-preserved : goal.loop-place-preserved
 loop-place-preserved c =
     let s = model c.args.study.now in
     let few = (limited c.args.study.now).few_echelons in
     let h : c.loop-place.place < length c.args.line.now = omega (arith, c.echelons.ensures, c.from-place-end.ensures) in
-    elim c.else-is-free.branch [
-      | else-is-free-via-then-is-free+else-is-needed w ↦ not_needed s c.args.plan.now c.args.resource c.args.line.now c.loop-place.place c.loop-place.invariant _ w.is-needed.ensures w.if-is-needed.false
-      | else-is-free-via-else-is-free w ↦ not_free s c.args.plan.now c.args.resource c.args.line.now c.loop-place.place c.loop-place.invariant h _ c.is-free.ensures w.if-is-free.false
+    elim c.else-is_free.branch [
+      | else-is_free-via-then-is_free+else-is_needed w ↦ not_needed s c.args.plan.now c.args.resource c.args.line.now c.loop-place.place c.loop-place.invariant _ w.is_needed.ensures w.if-is_needed.false
+      | else-is_free-via-else-is_free w ↦ not_free s c.args.plan.now c.args.resource c.args.line.now c.loop-place.place c.loop-place.invariant h _ c.is_free.ensures w.if-is_free.false
     ]
 
-pub returns-then-is-needed : goal.returns-then-is-needed
-returns-then-is-needed c =
+pub returns-then-is_needed : goal.returns-then-is_needed
+returns-then-is_needed c =
     let few = (limited c.args.study.now).few_echelons in (
       omega (arith, c.echelons.ensures, c.from-place-end.ensures),
-      found_free c.args.line.now c.loop-place.place (omega (arith, c.echelons.ensures, c.from-place-end.ensures)) c.if-is-free.ensures,
+      found_free c.args.line.now c.loop-place.place (omega (arith, c.echelons.ensures, c.from-place-end.ensures)) c.if-is_free.ensures,
     )
 
 pub returns : goal.returns

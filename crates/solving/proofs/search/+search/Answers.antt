@@ -5,9 +5,9 @@ use Rattle.solving.proofs.Frees.{marks_fall}
 use Rattle.solving.proofs.Searching.{nothing_better, here, both_branches}
 use Rattle.solving.proofs.search.+search.Goals as goal
 
-pub returns-then-not-is-ahead : goal.returns-then-not-is-ahead
-returns-then-not-is-ahead g t c =
-    nothing_better g.met.K.CostKind.laws (model c.args.study.now) c.args.survey.now c.args.marks c.requires.0 c.args.best c.bound-found.result c.bound-found.ensures _ (ap length c.components_count.ensures) _ c.is-ahead.ensures c.if-not-is-ahead.true
+pub returns-then-not-is_ahead : goal.returns-then-not-is_ahead
+returns-then-not-is_ahead g t c =
+    nothing_better g.met.K.CostKind.laws (model c.args.study.now) c.args.survey.now c.args.marks c.requires.0 c.args.best c.bound-found.result c.bound-found.ensures _ (ap length c.components-count.ensures) _ c.is_ahead.ensures c.if-not-is_ahead.true
 
 pub search-next-requires : goal.search-next-requires
 search-next-requires g t c κs within =
@@ -21,7 +21,7 @@ search-requires g t c κs within =
 
 pub returns-in-None : goal.returns-in-None
 returns-in-None g t c =
-    here g.met.K.CostKind.laws (model c.args.study.now) c.args.survey.now c.args.marks c.requires.0 c.args.best c.bound-found.result c.bound-found.ensures _ (ap length c.components_count.ensures) _ c.is-ahead.ensures _ (ap (λ n. take n c.bound-found.result.plan) (sub-zero _)) c.in-None.ensures c.if-not-is-ahead.false
+    here g.met.K.CostKind.laws (model c.args.study.now) c.args.survey.now c.args.marks c.requires.0 c.args.best c.bound-found.result c.bound-found.ensures _ (ap length c.components-count.ensures) _ c.is_ahead.ensures _ (ap (λ n. take n c.bound-found.result.plan) (sub-zero _)) c.in-None.ensures c.if-not-is_ahead.false
 
 pub returns-in-Some : goal.returns-in-Some
 returns-in-Some g t c =

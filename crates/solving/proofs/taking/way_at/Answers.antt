@@ -28,16 +28,16 @@ returns g c o under on offers cell =
     let s = model c.args.study.now in
     let i = c.args.number in
     let e = c.args.echelon in
-    let finds = subst (λ n. Leads k g.K.CostKind.lower c.allowed_choices.result n c.sum-at.result c.args.onward c.way-on.result) (add-one e) c.way-on.ensures in
+    let finds = subst (λ n. Leads k g.K.CostKind.lower c.allowed-choices.result n c.sum_at.result c.args.onward c.way_on.result) (add-one e) c.way_on.ensures in
     let last : c.from.result ≡ s.echelons = c.from.ensures ∙ c.echelons.ensures in
-    let here = offers_read c.allowed_choices.result _ c.component-of.result s i e _ (o (suc i)) c.allowed_choices.ensures c.component-of.ensures (offers i e c.requires.0.0 c.requires.0.1) in
-    let sum = cell_read (view c.args.tags.now c.args.working.now) i _ _ e Closed _ (held k (under (suc e))) c.sum-at.ensures last cell in
+    let here = offers_read c.allowed-choices.result _ c.component_of.result s i e _ (o (suc i)) c.allowed-choices.ensures c.component_of.ensures (offers i e c.requires.number_bound.0 c.requires.number_bound.1) in
+    let sum = cell_read (view c.args.tags.now c.args.working.now) i _ _ e Closed _ (held k (under (suc e))) c.sum_at.ensures last cell in
     finds (o (suc i)) under on here sum
 
-pub sum-at-requires : goal.sum-at-requires
-sum-at-requires g c =
+pub sum_at-requires : goal.sum_at-requires
+sum_at-requires g c =
     let s = model c.args.study.now in
     let last : c.from.result ≡ s.echelons = c.from.ensures ∙ c.echelons.ensures in
     let fits : (cells : ℕ) → count s * s.echelons ≤ cells → c.args.number * c.from.result + c.args.echelon < cells =
-    λ cells room. subst (λ n. c.args.number * n + c.args.echelon < cells) (sym last) (cell_fits (count s) s.echelons c.args.number c.args.echelon cells c.requires.0.0 c.requires.0.1 room) in
-    (fits _ c.requires.1.0, fits _ c.requires.1.1)
+    λ cells room. subst (λ n. c.args.number * n + c.args.echelon < cells) (sym last) (cell_fits (count s) s.echelons c.args.number c.args.echelon cells c.requires.number_bound.0 c.requires.number_bound.1 room) in
+    (fits _ c.requires.study_in_bounds.0, fits _ c.requires.study_in_bounds.1)

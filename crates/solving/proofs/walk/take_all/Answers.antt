@@ -18,7 +18,7 @@ loop-number-preserved g c = λ o offers blank.
     let l = c.loop-number in
     let s = model c.args.study.now in
     let all : length c.components-number.result.now ≡ count s = ap length c.components-number.ensures in
-    one_taken g.K.CostKind.adding g.K.CostKind.lower s (limited c.args.study.now) o c.args.survey.now c.args.shut.now l.number (l.number - 1) c.component-of.result l.total c.add-top-total.result c.take-component-taken.result l.notes (view l.tags l.working) (view c.take-component-taken.new.tags c.take-component-taken.new.working) (omega arith) (omega arith) (omega arith) c.component-of.ensures offers (l.invariant o offers blank) c.take-component-taken.ensures c.add-top-total.ensures
+    one_taken g.K.CostKind.adding g.K.CostKind.lower s (limited c.args.study.now) o c.args.survey.now c.args.shut.now l.number (l.number - 1) c.component_of.result l.total c.add_top-total.result c.take_component-taken.result l.notes (view l.tags l.working) (view c.take_component-taken.new.tags c.take_component-taken.new.working) (omega arith) (omega arith) (omega arith) c.component_of.ensures offers (l.invariant o offers blank) c.take_component-taken.ensures c.add_top-total.ensures
 
 pub returns : goal.returns
 returns g c = λ o offers blank.
