@@ -1,5 +1,6 @@
 // The worked figures, proved from the definitions.
 #![tactic(auto)]
+
 ghost use Rattle.cases.specs.Figures.{FiguresFollow};
 
 // Every worked figure of the list follows from the definitions that the contracts cite.
