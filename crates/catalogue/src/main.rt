@@ -1,5 +1,6 @@
 // catalogue: prices plans for a small study from a price book, first as it stands and then with some questions barred.
 #![tactic(auto)]
+
 use anyhow::anyhow;
 use books::lent::Lent;
 use books::price_book::PriceBook;
