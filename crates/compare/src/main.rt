@@ -1,5 +1,6 @@
 // compare: solves many small studies with the solver and with one that tries every assignment, and counts where they differ.
 #![tactic(auto)]
+
 mod made;
 mod plain;
 mod random;
