@@ -16,7 +16,7 @@ fn is_under(row: PriceRow, number: usize) -> bool
 
 // The rows under a row have greater numbers.
 pub(crate) fn gross_price(rows: &[PriceRow], row: usize) -> u32
-    requires { (row < length rows.now) × (((i : ℕ) → gross rows.now i ≤ most_gross)) }
+    requires { (row < length rows.now) × ((i : ℕ) → gross rows.now i ≤ most_gross) }
     ensures { result ≡ gross rows.now row }
 {
     let mut sum = rows[row].net;
