@@ -4,7 +4,7 @@ use Rattle.std.proofs.lemmas.Bool.Decides.{nat_tests}
 use Rattle.model.specs.Components.{is_entered}
 use Rattle.books.specs.declared.price_row.PriceRow.{PriceRow}
 use Rattle.books.specs.PriceRows.{no_row}
-use Rattle.books.specs.Gross.{is_parent, is_under, sum_where, grosses, gross}
+use Rattle.books.specs.Gross.{is_parent, is_under, sum_where, grosses}
 
 -- the row has no parent, or one before row i
 abbrev is_apart : ℕ → PriceRow → Bool

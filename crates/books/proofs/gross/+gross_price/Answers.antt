@@ -1,5 +1,4 @@
 use Rattle.std.proofs.Common.{sym, ◌∙◌, arith}
-use Rattle.books.specs.Gross.{is_under}
 use Rattle.books.proofs.Grossing.{gross_is, under_taken, under_left, under_all}
 use Rattle.books.proofs.gross.+gross_price.Goals as goal
 use Rattle.books.proofs.gross.+gross_price.Goals.{then-is_under, else-is_under}
