@@ -90,7 +90,7 @@ fn refusal_lines(rt: HostRuntime) {
         record: 65_535,
         number: 7,
     });
-    assert!(rt; &record[0..20] == b"refused 35 65535 7\n\0");
+    assert!(rt; &record[0..20] == b"refused 35 65535 7\n\0".as_slice());
     let fault = refusal_bytes(&Refusal::BookFault(Fault {
         cause: Cause::EnteredTwice,
         letter: 'T',
@@ -101,5 +101,5 @@ fn refusal_lines(rt: HostRuntime) {
             option: RepairOption::Repair,
         },
     }));
-    assert!(rt; &fault[0..25] == b"refused 12 2 T 0 3 1 R\n\0\0");
+    assert!(rt; &fault[0..25] == b"refused 12 2 T 0 3 1 R\n\0\0".as_slice());
 }

@@ -10,7 +10,7 @@ use Rattle.reports.specs.Lines.{component_line}
 use Rattle.reports.specs.NextUnder.{NextUnder}
 use Rattle.reports.specs.Places.{Room, Puts}
 use Rattle.reports.specs.Reports.{line, lines}
-use Rattle.reports.proofs.Entries.{level, level_low, level_high, level_is, entry_is}
+use Rattle.reports.proofs.Entries.{level_low, level_high, level_is, entry_is}
 use Rattle.reports.proofs.Listing.{listed_next, listed_all, listed_split}
 use Rattle.reports.proofs.Puts.{puts_then, puts_same, puts_none, room_first, room_then}
 use Rattle.reports.proofs.Ranges.{joined_append}
