@@ -5,8 +5,7 @@ use Rattle.costs.specs.Kinds.{Adding, Laws}
 use Rattle.model.specs.declared.refusal.Refusal.{Refusal}
 use Rattle.model.specs.Books.{Book, KeepsLimits}
 use Rattle.model.specs.Studies.{Model, Limits}
-use Rattle.solutions.specs.Promises.{Ready, SolvesLeast}
-use Rattle.solutions.specs.Solved.{solved}
+use Rattle.solutions.specs.Promises.{SolvesLeast}
 use Rattle.solutions.proofs.Promised.{solves_least_and_first}
 use Rattle.runs.specs.declared.call.Call.{Call}
 use Rattle.runs.specs.declared.call.Call.TheVariants.{Open, Enter, Require, Strike, Price, Solve}

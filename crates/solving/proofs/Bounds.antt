@@ -11,7 +11,7 @@ use Rattle.planning.specs.declared.table.Survey.{Survey}
 use Rattle.planning.specs.Sums.{Summable, Adds}
 use Rattle.theory.specs.Entries.{Entry, post, adds, sum}
 use Rattle.theory.specs.Amounts.{Amount, value}
-use Rattle.theory.specs.Searches.{Best as Found-plan, with_pairs, pair_postings, bound}
+use Rattle.theory.specs.Searches.{Best as Found-plan, with_pairs, pair_postings}
 use Rattle.theory.specs.Problems.{walk}
 use Rattle.theory.proofs.Pairs.{pairs_fit}
 use Rattle.theory.proofs.Problems.{countable, walk_answers}

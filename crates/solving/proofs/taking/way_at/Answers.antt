@@ -5,7 +5,6 @@ use Rattle.plans.specs.Postings.{component}
 use Rattle.plans.specs.Questions.{count}
 use Rattle.planning.specs.declared.table.Choices.{Choices}
 use Rattle.theory.specs.Options.{Options}
-use Rattle.theory.specs.Choices.{way_on}
 use Rattle.solving.specs.declared.sum.Sum.TheVariants.{Closed}
 use Rattle.solving.specs.Allowed.{allowed_choices}
 use Rattle.solving.specs.Sums.{held, Offers, Leads}
