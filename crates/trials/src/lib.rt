@@ -1,5 +1,6 @@
 // The trial: a study is solved with the money of one record of a file changed, and the file ends as it was.
 #![tactic(auto)]
+
 mod changed;
 pub mod laws;
 #[cfg(test)]
