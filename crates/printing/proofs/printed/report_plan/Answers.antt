@@ -18,8 +18,8 @@ written s limits plan y z last n long same e =
     let answer : Ok n ≡ Ok (length (report_text s plan z)) = ap (λ p. p.0) all in
     (cc, ap (λ p. p.1) all)
 
-pub slice-bounds-to-vec-end : goal.slice-bounds-to-vec-end
-slice-bounds-to-vec-end c =
+pub slice_bounds-to_vec-end : goal.slice_bounds-to_vec-end
+slice_bounds-to_vec-end c =
     let s = model c.args.study.now in
     let limits = limited c.args.study.now in
     let z = c.args.cents in
@@ -27,12 +27,12 @@ slice-bounds-to-vec-end c =
     let short = report_short s limits c.args.plan.now z c.ranges.cents.sfits in
     omega (arith, w.0, limits.few_components, c.report.auto.place)
 
-pub returns-in-ok-to-vec : goal.returns-in-ok-to-vec
-returns-in-ok-to-vec c =
+pub returns-in_ok-to_vec-in-Ok : goal.returns-in_ok-to_vec-in-Ok
+returns-in_ok-to_vec-in-Ok c =
     let s = model c.args.study.now in
     let z = c.args.cents in
     let text = report_text s c.args.plan.now z in
     let n = c.in-Ok.length in
     let w = written s (limited c.args.study.now) c.args.plan.now _ z c.report.new.place n c.requires (to_z-of_z w64 z c.ranges.cents) c.in-Ok.ensures in
     let cut : n - 0 ≡ length text = omega (arith, w.0) in
-    ap Ok (sym (c.in-ok-to-vec.ensures.items-if-clones-equal (λ x y e. e) ∙ ap (λ l. take (n - 0) l) w.1 ∙ ap (λ k. take k (at_front text (replicate 992 0))) cut ∙ take_at text _ (length text) refl))
+    ap Ok (sym (c.in_ok-to_vec-in-Ok.ensures.items_if_clones_equal (λ x y e. e) ∙ ap (λ l. take (n - 0) l) w.1 ∙ ap (λ k. take k (at_front text (replicate 992 0))) cut ∙ take_at text _ (length text) refl))

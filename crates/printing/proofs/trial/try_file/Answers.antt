@@ -13,9 +13,9 @@ returns-in-Ok c =
     let j = c.args.record in
     let z = c.args.amount in
     let s = model c.in-Ok.study in
-    let taken : Ok s ≡ taken_in file = ap modelled (sym c.in-Ok.is) ∙ c.in-ok-study.ensures in
+    let taken : Ok s ≡ taken_in file = ap modelled (sym c.in-Ok.is) ∙ c.in_ok-study.ensures in
     let text = ap (λ x. tried_for file j x (Ok s)) (to_z-of_z w64 z c.ranges.amount) ∙ ap (tried_for file j z) taken in
     record {
-      text = subst (λ t. IfOk c.try-and-solve.result (λ q. Shows q t)) text c.try-and-solve.ensures.text;
-      file = c.try-and-solve.ensures.file;
+      text = subst (λ t. IfOk c.try_and_solve.result (λ q. Shows q t)) text c.try_and_solve.ensures.text;
+      file = c.try_and_solve.ensures.file;
     }
