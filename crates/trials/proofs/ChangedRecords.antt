@@ -1,15 +1,14 @@
 -- A file with other cents in one record, record by record.
-use Rattle.std.proofs.Common.{◌≡◌, ℕ, ◌+◌, ◌-◌, ◌*◌, ◌/◌, ◌%◌, ◌^◌, ◌<◌, ◌≤◌, Bool, true, ◌&&◌, ltb, ◌⊎◌, List, map, length, get_or, take, drop, ℤ, sym, refl, ap, ◌∙◌, subst, ap₂, inl, inr, ⊎_elim, add-zero, zero-add, arith, length-drop, length-take, w64, SFits, to_z, of_z}
+use Rattle.std.proofs.Common.{◌≡◌, ℕ, ◌+◌, ◌*◌, ◌/◌, ◌<◌, ◌≤◌, Bool, true, ◌&&◌, ltb, ◌⊎◌, List, map, length, get_or, drop, ℤ, sym, refl, ap, ◌∙◌, inl, inr, ⊎_elim, add-zero, zero-add, arith, length-drop, length-take, w64, SFits, to_z, of_z}
 use lib.Signed.{lt_z}
 use mir.ValLaws.{of_z_fits}
 use Rattle.std.specs.List.{range_with_len, between}
-use Rattle.std.proofs.lemmas.List.FromFn.{fill_by_all, length-map-range_with_len, get_or-map-range_with_len}
+use Rattle.std.proofs.lemmas.List.FromFn.{length-map-range_with_len, get_or-map-range_with_len}
 use Rattle.std.proofs.lemmas.List.Edits.{length-between, get_or-between}
 use Rattle.std.proofs.lemmas.List.{ext_get_or, get_or-take, get_or-drop}
 use Rattle.std.proofs.lemmas.Int.{to_z-of_z, of_z-to_z}
 use Rattle.std.proofs.lemmas.Bool.{and_parts, ltb-true, lt-ltb, cond-true, cases_lt}
 use Rattle.costs.specs.Amounts.{money}
-use Rattle.model.specs.Studies.{Model}
 use Rattle.files.specs.Records.{byte, number_at, record_at, kind, charge_of}
 use Rattle.files.specs.RoundTrips.{Bytes}
 use Rattle.files.specs.Intakes.{is_charge}
@@ -19,7 +18,6 @@ use Rattle.files.proofs.Numbers.{bytes_again, number_again, number_same, number_
 use Rattle.files.proofs.RecordRows.{record_readable}
 use Rattle.solutions.specs.Solved.{solved}
 use Rattle.trials.specs.Changes.{is_charge_record, cents_bytes, with_bytes, with_cents}
-use Rattle.trials.specs.Trials.{tried}
 use Rattle.trials.specs.Laws.{ChangesOneAmount, TrialChangesOneAmount, StandingAmountIsNoChange}
 use Rattle.trials.proofs.Changes.{as_long, byte_outside, byte_inside, own_bytes}
 

@@ -1,8 +1,6 @@
 -- Trials made one after another: each is made on the file as it was at first.
-use Rattle.std.proofs.Common.{◌≡◌, ℕ, List, [], ◌∷◌, refl, ◌∙◌, subst}
-use Rattle.std.specs.List.{AllByRecursion}
-use Rattle.model.specs.Studies.{Model}
-use Rattle.trials.specs.Laws.{Trial, Made, MadeInTurn, TrialsLeaveNoTrace}
+use Rattle.std.proofs.Common.{[], ◌∷◌, subst}
+use Rattle.trials.specs.Laws.{Made, MadeInTurn, TrialsLeaveNoTrace}
 
 pub leave_no_trace : TrialsLeaveNoTrace
 leave_no_trace s file left [] e = (tt, e)

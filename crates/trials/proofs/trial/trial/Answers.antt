@@ -1,4 +1,4 @@
-use Rattle.std.proofs.Common.{◌≡◌, ℕ, ◌+◌, ◌-◌, ◌*◌, true, List, length, ℤ, sym, ap, ◌∙◌, subst, ap₂, arith, w64, rules}
+use Rattle.std.proofs.Common.{◌≡◌, true, length, ℤ, sym, ap, ◌∙◌, subst, ap₂, arith, w64, rules}
 use lib.Signed.{lt_z}
 use Rattle.std.proofs.lemmas.Int.{to_z-of_z}
 use Rattle.std.proofs.lemmas.Bool.{cond-true}
