@@ -1,5 +1,6 @@
 // lora: finds the least plan for a study file, first in reading order.
 #![tactic(auto)]
+
 use anyhow::anyhow;
 use printing::printed::Printed;
 use printing::solution::solve_file;

@@ -1,5 +1,6 @@
 // quote: prices a plan for a study file. `quote BYTE.. < FILE`
 #![tactic(auto)]
+
 use anyhow::anyhow;
 use printing::printed::Printed;
 use printing::quotation::quote_plan;

@@ -1,5 +1,6 @@
 // session: makes a list of calls on a new blank study, one after another, and prints what each answered.
 #![tactic(auto)]
+
 mod answers;
 mod script;
 
