@@ -1,5 +1,5 @@
 -- Studies of one part that fails 1,000 times in a thousand years, and two books for it.
-use Rattle.std.specs.Prelude.{ℕ, cond, ◌&&◌, [], ◌∷◌, ℤ, pos, neg_ℤ, None, ◌==◌}
+use Rattle.std.specs.Prelude.{ℕ, cond, [], ◌∷◌, ℤ, pos, neg_ℤ, None, ◌==◌}
 use Rattle.model.specs.declared.question.Question.TheVariants.{OfOption, OfResource}
 use Rattle.model.specs.declared.question.RepairOption.{RepairOption}
 use Rattle.model.specs.declared.question.RepairOption.TheVariants.{Discard, Repair, Move}

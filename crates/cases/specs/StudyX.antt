@@ -1,7 +1,6 @@
 -- Study X: two echelons, one resource, component 0 at the top and component 1 under it.
-use Rattle.std.specs.Prelude.{ℕ, cond, ◌&&◌, List, [], ◌∷◌, pos, Some, None, ◌==◌}
+use Rattle.std.specs.Prelude.{ℕ, cond, [], ◌∷◌, pos, Some, None, ◌==◌}
 use Rattle.model.specs.declared.component.Needs.{Needs}
-use Rattle.model.specs.declared.question.Question.{Question}
 use Rattle.model.specs.declared.question.Question.TheVariants.{OfOption, OfResource}
 use Rattle.model.specs.declared.question.RepairOption.{RepairOption}
 use Rattle.model.specs.declared.question.RepairOption.TheVariants.{Discard, Repair, Move}

@@ -1,5 +1,5 @@
 -- What lora prints for a file: the report of the least plan, or the line of the refusal.
-use Rattle.std.specs.Prelude.{ℕ, List, replicate, ℤ, Ok, Err, Result, int_lt}
+use Rattle.std.specs.Prelude.{ℕ, List, replicate, Ok, Err, Result, int_lt}
 use Rattle.costs.specs.Amounts.{money}
 use Rattle.model.specs.declared.refusal.Refusal.{Refusal}
 use Rattle.model.specs.Studies.{Model}
