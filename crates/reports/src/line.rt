@@ -31,7 +31,7 @@ fn put_decision(place: &mut [u8], at: usize, byte: u8) -> usize
 
 // Puts the line of a component: two blanks for each indenture level above 1, its number, and what its byte decides.
 pub(crate) fn put_line(place: &mut [u8], at: usize, level: u8, number: u8, byte: u8) -> usize
-    requires le_level { (1 ≤ level) × (level ≤ 5) }
+    requires level_in_range { (1 ≤ level) × (level ≤ 5) }
     requires room { Room place.old at (replicate (2 * (level - 1)) 32 ++ component_line number byte) }
     ensures { Puts place.old at (replicate (2 * (level - 1)) 32 ++ component_line number byte) result place.new }
 {

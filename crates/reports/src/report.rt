@@ -47,7 +47,7 @@ fn next_under(study: &Study, parent: Option<u8>, from: usize) -> Option<usize>
 // Puts an entry into the place: the component's line, and the list under it.
 #[cycle(put_entry_put_list)]
 fn put_entry(study: &Study, plan: &[u8], number: usize, place: &mut [u8], at: usize) -> usize
-    requires number_bound { (number < count (model study.now)) × (count (model study.now) ≤ length plan.now) }
+    requires component_has_byte { (number < count (model study.now)) × (count (model study.now) ≤ length plan.now) }
     requires room { Room place.old at (lines (model study.now) plan.now (entry_of (model study.now) number)) }
     ensures { Puts place.old at (lines (model study.now) plan.now (entry_of (model study.now) number)) result place.new }
 {
@@ -59,7 +59,7 @@ fn put_entry(study: &Study, plan: &[u8], number: usize, place: &mut [u8], at: us
 // Puts a list into the place: the entries of all components under one parent, in number order.
 #[cycle(put_entry_put_list)]
 fn put_list(study: &Study, plan: &[u8], parent: Option<u8>, place: &mut [u8], at: usize) -> usize
-    requires study_in_bounds { count (model study.now) ≤ length plan.now }
+    requires byte_for_each { count (model study.now) ≤ length plan.now }
     requires room { Room place.old at (lines (model study.now) plan.now (listed (model study.now) (entry_of (model study.now)) parent)) }
     ensures { Puts place.old at (lines (model study.now) plan.now (listed (model study.now) (entry_of (model study.now)) parent)) result place.new }
 {

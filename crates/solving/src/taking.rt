@@ -43,8 +43,8 @@ fn way_at<K: CostKind>(
     working: &[K::Cost],
     onward: Choice<K::Cost>,
 ) -> Choice<K::Cost>
-    requires number_bound { (number < count (model study.now)) × (echelon < (model study.now).echelons) }
-    requires study_in_bounds { (count (model study.now) * (model study.now).echelons ≤ length tags.now) × (count (model study.now) * (model study.now).echelons ≤ length working.now) }
+    requires entered { (number < count (model study.now)) × (echelon < (model study.now).echelons) }
+    requires tables_long_enough { (count (model study.now) * (model study.now).echelons ≤ length tags.now) × (count (model study.now) * (model study.now).echelons ≤ length working.now) }
     ensures { FindsWay K.adding K.lower (model study.now) survey.now shut.now number echelon (view tags.now working.now) onward result }
 {
     let needs = component_of(study, number).needs;
@@ -70,8 +70,8 @@ pub(crate) fn take_component<K: CostKind>(
     tags: &mut [Tag],
     working: &mut [K::Cost],
 ) -> Taken<K::Cost>
-    requires number_bound { number < count (model study.now) }
-    requires study_in_bounds { (count (model study.now) * (model study.now).echelons ≤ length tags.old) × (count (model study.now) * (model study.now).echelons ≤ length working.old) }
+    requires entered { number < count (model study.now) }
+    requires tables_long_enough { (count (model study.now) * (model study.now).echelons ≤ length tags.old) × (count (model study.now) * (model study.now).echelons ≤ length working.old) }
     ensures { TakesOne K.adding K.lower (model study.now) survey.now shut.now number (view tags.old working.old) (view tags.new working.new) result }
 {
     let parent = component_of(study, number).parent;

@@ -20,32 +20,32 @@ line_length k i b =
 pub put_bytes-digits-requires : goal.put_bytes-digits-requires
 put_bytes-digits-requires c =
     let k = 2 * (c.args.level - 1) in
-    omega (arith, line_length k c.args.number c.args.byte, ap length (indented c.args.level c.requires.le_level.1), length-replicate {A = ℕ} k 32, c.requires.room)
+    omega (arith, line_length k c.args.number c.args.byte, ap length (indented c.args.level c.requires.level_in_range.1), length-replicate {A = ℕ} k 32, c.requires.room)
 
 pub put_number-blank-requires : goal.put_number-blank-requires
 put_number-blank-requires c =
     let k = 2 * (c.args.level - 1) in
-    omega (arith, line_length k c.args.number c.args.byte, ap length (indented c.args.level c.requires.le_level.1), length-replicate {A = ℕ} k 32, c.requires.room, c.put_bytes-digits.ensures.ends, ap (λ n. length (decimal n)) c.from.ensures)
+    omega (arith, line_length k c.args.number c.args.byte, ap length (indented c.args.level c.requires.level_in_range.1), length-replicate {A = ℕ} k 32, c.requires.room, c.put_bytes-digits.ensures.ends, ap (λ n. length (decimal n)) c.from.ensures)
 
 pub put_bytes-decided-requires : goal.put_bytes-decided-requires
 put_bytes-decided-requires c =
     let k = 2 * (c.args.level - 1) in
-    omega (arith, line_length k c.args.number c.args.byte, ap length (indented c.args.level c.requires.le_level.1), length-replicate {A = ℕ} k 32, c.requires.room, c.put_bytes-digits.ensures.ends, ap (λ n. length (decimal n)) c.from.ensures, c.put_number-blank.ensures.ends)
+    omega (arith, line_length k c.args.number c.args.byte, ap length (indented c.args.level c.requires.level_in_range.1), length-replicate {A = ℕ} k 32, c.requires.room, c.put_bytes-digits.ensures.ends, ap (λ n. length (decimal n)) c.from.ensures, c.put_number-blank.ensures.ends)
 
 pub put_decision-requires : goal.put_decision-requires
 put_decision-requires c =
     let k = 2 * (c.args.level - 1) in
-    omega (arith, line_length k c.args.number c.args.byte, ap length (indented c.args.level c.requires.le_level.1), length-replicate {A = ℕ} k 32, c.requires.room, c.put_bytes-digits.ensures.ends, ap (λ n. length (decimal n)) c.from.ensures, c.put_number-blank.ensures.ends, c.put_bytes-decided.ensures.ends)
+    omega (arith, line_length k c.args.number c.args.byte, ap length (indented c.args.level c.requires.level_in_range.1), length-replicate {A = ℕ} k 32, c.requires.room, c.put_bytes-digits.ensures.ends, ap (λ n. length (decimal n)) c.from.ensures, c.put_number-blank.ensures.ends, c.put_bytes-decided.ensures.ends)
 
 pub returns : goal.returns
 returns c =
     let start : c.args.at ≤ length c.args.place.now = omega (arith, c.requires.room) in
     let k = 2 * (c.args.level - 1) in
     let long = line_length k c.args.number c.args.byte in
-    let blanks = ap length (indented c.args.level c.requires.le_level.1) ∙ length-replicate {A = ℕ} k 32 in
+    let blanks = ap length (indented c.args.level c.requires.level_in_range.1) ∙ length-replicate {A = ℕ} k 32 in
     let number = ap (λ n. length (decimal n)) c.from.ensures in
     let digits : c.put_bytes-digits.result ≤ length c.put_bytes-digits.new.place = omega (arith, c.requires.room) in
     let blank : c.put_number-blank.result ≤ length c.put_number-blank.new.place = omega (arith, c.requires.room) in
-    puts_then start (puts_same (indented c.args.level c.requires.le_level.1) c.put_bytes-digits.ensures)
+    puts_then start (puts_same (indented c.args.level c.requires.level_in_range.1) c.put_bytes-digits.ensures)
     (puts_then digits (puts_same (ap decimal c.from.ensures) c.put_number-blank.ensures)
     (puts_then blank c.put_bytes-decided.ensures c.put_decision.ensures))

@@ -43,12 +43,12 @@ put_entry-put_line-next-requires t c =
     let plan = c.args.plan.now in
     let place = c.args.place.now in
     let i = c.args.number in
-    let known = c.requires.number_bound.0 in
+    let known = c.requires.component_has_byte.0 in
     let Fits : Component → Type 0 =
     λ x. ((1 ≤ x.level) × (x.level ≤ 5)) × Room place c.args.at (replicate (2 * (x.level - 1)) 32 ++ component_line i (byte plan i)) in
     let room = room_first place c.args.at (line s plan i) (lines s plan (listed s (entry_of s) (Some i))) (entry_room s limits plan place c.args.at i known c.requires.room) in
     let fits = subst Fits (sym c.component_of-level.ensures) ((level_low s limits i known, level_high s limits i known), room) in
-    record { le_level = fits.0; room = fits.1 }
+    record { level_in_range = fits.0; room = fits.1 }
 
 -- the line as it was put, by the component that the code read
 line_put : (s : Model) (plan place last : List ℕ) (at end i : ℕ) (x : Component) → x ≡ component s i → Puts place at (replicate (2 * (x.level - 1)) 32 ++ component_line i (byte plan i)) end last → Puts place at (line s plan i) end last
@@ -61,8 +61,8 @@ put_entry-put_list-requires t c =
     let limits = limited c.args.study.now in
     let plan = c.args.plan.now in
     let i = c.args.number in
-    let high = level_high s limits i c.requires.number_bound.0 in
-    (omega arith, (c.requires.number_bound.1, room_then (lines s plan (listed s (entry_of s) (Some i))) (line_put s plan c.args.place.now c.put_line-next.new.place c.args.at c.put_line-next.result i c.component_of-level.result c.component_of-level.ensures c.put_line-next.ensures) c.put_line-next.auto.place (entry_room s limits plan c.args.place.now c.args.at i c.requires.number_bound.0 c.requires.room)))
+    let high = level_high s limits i c.requires.component_has_byte.0 in
+    (omega arith, (c.requires.component_has_byte.1, room_then (lines s plan (listed s (entry_of s) (Some i))) (line_put s plan c.args.place.now c.put_line-next.new.place c.args.at c.put_line-next.result i c.component_of-level.result c.component_of-level.ensures c.put_line-next.ensures) c.put_line-next.auto.place (entry_room s limits plan c.args.place.now c.args.at i c.requires.component_has_byte.0 c.requires.room)))
 
 pub put_entry-returns : goal.put_entry-returns
 put_entry-returns t c =
@@ -71,7 +71,7 @@ put_entry-returns t c =
     let plan = c.args.plan.now in
     let i = c.args.number in
     let start : c.args.at ≤ length c.args.place.now = omega (arith, c.requires.room) in
-    puts_same (ap (lines s plan) (sym (entry_is s limits i c.requires.number_bound.0))) (puts_then start (line_put s plan c.args.place.now c.put_line-next.new.place c.args.at c.put_line-next.result i c.component_of-level.result c.component_of-level.ensures c.put_line-next.ensures) c.put_list.ensures)
+    puts_same (ap (lines s plan) (sym (entry_is s limits i c.requires.component_has_byte.0))) (puts_then start (line_put s plan c.args.place.now c.put_line-next.new.place c.args.at c.put_line-next.result i c.component_of-level.result c.component_of-level.ensures c.put_line-next.ensures) c.put_list.ensures)
 
 pub put_list-loop-number-init : goal.put_list-loop-number-init
 put_list-loop-number-init t c = (omega arith, puts_none c.args.place.now c.args.at)
@@ -84,7 +84,7 @@ put_list-put_entry-end-requires t c =
     let found = c.in-Some.ensures in
     let i = c.in-Some.number in
     let deep = level_is s limits c.args.parent i found.1 found.2 in
-    (omega arith, ((found.1, c.requires.study_in_bounds), (next_room s plan c.args.parent c.args.place.now c.loop-number.place c.args.at c.loop-number.end c.loop-number.from i found c.loop-number.auto.place c.loop-number.invariant.1 c.requires.room)))
+    (omega arith, ((found.1, c.requires.byte_for_each), (next_room s plan c.args.parent c.args.place.now c.loop-number.place c.args.at c.loop-number.end c.loop-number.from i found c.loop-number.auto.place c.loop-number.invariant.1 c.requires.room)))
 
 pub put_list-loop-number-preserved : goal.put_list-loop-number-preserved
 put_list-loop-number-preserved t c =

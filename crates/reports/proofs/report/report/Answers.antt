@@ -21,7 +21,7 @@ put_list-end-requires c =
     let all = ap length c.components-count.ensures in
     let short = lines_short s limits plan in
     let same = ap (λ is. length (lines s plan is)) (order_is s limits) in
-    record { study_in_bounds = omega arith; room = omega arith }
+    record { byte_for_each = omega arith; room = omega arith }
 
 pub put_total-requires : goal.put_total-requires
 put_total-requires c =

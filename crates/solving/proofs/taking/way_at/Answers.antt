@@ -29,7 +29,7 @@ returns g c o under on offers cell =
     let e = c.args.echelon in
     let finds = subst (λ n. Leads k g.K.CostKind.lower c.allowed-choices.result n c.sum_at.result c.args.onward c.way_on.result) (add-one e) c.way_on.ensures in
     let last : c.from.result ≡ s.echelons = c.from.ensures ∙ c.echelons.ensures in
-    let here = offers_read c.allowed-choices.result _ c.component_of.result s i e _ (o (suc i)) c.allowed-choices.ensures c.component_of.ensures (offers i e c.requires.number_bound.0 c.requires.number_bound.1) in
+    let here = offers_read c.allowed-choices.result _ c.component_of.result s i e _ (o (suc i)) c.allowed-choices.ensures c.component_of.ensures (offers i e c.requires.entered.0 c.requires.entered.1) in
     let sum = cell_read (view c.args.tags.now c.args.working.now) i _ _ e Closed _ (held k (under (suc e))) c.sum_at.ensures last cell in
     finds (o (suc i)) under on here sum
 
@@ -38,5 +38,5 @@ sum_at-requires g c =
     let s = model c.args.study.now in
     let last : c.from.result ≡ s.echelons = c.from.ensures ∙ c.echelons.ensures in
     let fits : (cells : ℕ) → count s * s.echelons ≤ cells → c.args.number * c.from.result + c.args.echelon < cells =
-    λ cells room. subst (λ n. c.args.number * n + c.args.echelon < cells) (sym last) (cell_fits (count s) s.echelons c.args.number c.args.echelon cells c.requires.number_bound.0 c.requires.number_bound.1 room) in
-    (fits _ c.requires.study_in_bounds.0, fits _ c.requires.study_in_bounds.1)
+    λ cells room. subst (λ n. c.args.number * n + c.args.echelon < cells) (sym last) (cell_fits (count s) s.echelons c.args.number c.args.echelon cells c.requires.entered.0 c.requires.entered.1 room) in
+    (fits _ c.requires.tables_long_enough.0, fits _ c.requires.tables_long_enough.1)
