@@ -72,9 +72,11 @@ const USAGE: &str = "usage: catalogue
 Prices plans for a small study of its own from a price book, and again with some questions barred.";
 
 fn main(rt: HostRuntime) -> anyhow::Result<()> {
-    if env::args(&rt)?.count() > 1 {
-        println!(rt; "{USAGE}")?;
-        return Ok(());
+    for word in env::args(&rt)?.skip(1) {
+        if word.as_str() == "--help" {
+            println!(rt; "{USAGE}")?;
+            return Ok(());
+        }
     }
     let study = radio(rt.alloc())?;
     let book = prices(rt.alloc())?;

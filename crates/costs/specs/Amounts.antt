@@ -3,7 +3,7 @@ use Rattle.std.specs.Prelude.{◌+◌, Bool, not, ◌&&◌, ◌||◌, ℤ, ◌+�
 use Rattle.costs.specs.Kinds.{Adding}
 use Rattle.costs.specs.declared.totals.Total.{Total}
 
--- money alone: a posting's cents; `lt_z` compares them
+-- money alone: a posting's cents; `int_lt` compares them
 abbrev pub money : Adding ℤ
 money = record { post = λ p. p.cents; plus = ◌+ℤ◌ }
 

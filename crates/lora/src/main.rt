@@ -1,13 +1,13 @@
 // lora: finds the least plan for a study file, first in reading order.
 #![tactic(auto)]
 
-use anyhow::anyhow;
 use printing::printed::Printed;
 use printing::solution::solve_file;
 use printing::trial::try_file;
 use std::alloc::{AllocError, Global};
 use std::env;
 use std::io::{Read, Write};
+use std::process::ExitCode;
 
 // One byte more than the longest study file, so that a longer one is seen and refused, not cut.
 const MOST_READ: u64 = 65_521;
@@ -51,7 +51,21 @@ fn printed_for(heap: Global, task: Task, file: &mut [u8]) -> Result<Printed, All
     }
 }
 
-fn main(rt: HostRuntime) -> anyhow::Result<()> {
+// Says which argument is none that lora knows, or what `--try` wants.
+fn explain(rt: &HostRuntime, words: &[String]) -> anyhow::Result<()> {
+    if let Some(word) = words.first() {
+        if word.as_str() == "--try" {
+            eprintln!(rt;
+                "lora: --try wants a record and an amount, both whole numbers: see --help"
+            )?;
+        } else {
+            eprintln!(rt; "lora: '{word}' is no argument of lora: see --help")?;
+        }
+    }
+    Ok(())
+}
+
+fn main(rt: HostRuntime) -> anyhow::Result<ExitCode> {
     let mut words = Vec::new(rt.alloc());
     for word in env::args(&rt)?.skip(1) {
         words.push(word)?;
@@ -59,14 +73,12 @@ fn main(rt: HostRuntime) -> anyhow::Result<()> {
     let task = match task_of(words.as_slice()) {
         Some(Task::Help) => {
             println!(rt; "{USAGE}")?;
-            return Ok(());
+            return Ok(ExitCode::SUCCESS);
         }
         Some(task) => task,
         None => {
-            if let Some(word) = words.first() {
-                eprintln!(rt; "lora: '{word}' is no argument of lora: see --help")?;
-            }
-            return Err(anyhow!("no such argument"));
+            explain(&rt, words.as_slice())?;
+            return Ok(ExitCode::FAILURE);
         }
     };
     let mut file = Vec::new(rt.alloc());
@@ -74,14 +86,11 @@ fn main(rt: HostRuntime) -> anyhow::Result<()> {
     match printed_for(rt.alloc(), task, file.as_mut_slice())? {
         Printed::Report(text) => {
             rt.stdout().write_all(text.as_slice())?;
-            Ok(())
+            Ok(ExitCode::SUCCESS)
         }
         Printed::Refusal(text) => {
             rt.stdout().write_all(text.as_slice())?;
-            Err(match task {
-                Task::Try { .. } => anyhow!("the trial or the file is refused, or has no plan"),
-                _ => anyhow!("the file is refused, or has no plan"),
-            })
+            Ok(ExitCode::FAILURE)
         }
     }
 }

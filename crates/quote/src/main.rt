@@ -1,11 +1,11 @@
 // quote: prices a plan for a study file. `quote BYTE.. < FILE`
 #![tactic(auto)]
 
-use anyhow::anyhow;
 use printing::printed::Printed;
 use printing::quotation::quote_plan;
 use std::env;
 use std::io::{Read, Write};
+use std::process::ExitCode;
 
 // One byte more than the longest study file, so that a longer one is seen and refused, not cut.
 const MOST_READ: u64 = 65_521;
@@ -15,12 +15,12 @@ Prices a plan for the study in FILE. The plan has one number a component, in the
 0 for not reached, 2e - 1 for discard at echelon e, 2e for repair at echelon e.
 Prints what is decided for each component and the total in cents over a thousand years, or the line of the refusal.";
 
-fn main(rt: HostRuntime) -> anyhow::Result<()> {
+fn main(rt: HostRuntime) -> anyhow::Result<ExitCode> {
     let mut plan = Vec::new(rt.alloc());
     for word in env::args(&rt)?.skip(1) {
         if word.as_str() == "--help" {
             println!(rt; "{USAGE}")?;
-            return Ok(());
+            return Ok(ExitCode::SUCCESS);
         }
         match word.parse::<u8>() {
             Ok(byte) => plan.push(byte)?,
@@ -28,7 +28,7 @@ fn main(rt: HostRuntime) -> anyhow::Result<()> {
                 eprintln!(rt;
                     "quote: '{word}' is no byte of a plan: a number from 0 to 255 is expected"
                 )?;
-                return Err(anyhow!("no byte of a plan"));
+                return Ok(ExitCode::FAILURE);
             }
         }
     }
@@ -37,11 +37,11 @@ fn main(rt: HostRuntime) -> anyhow::Result<()> {
     match quote_plan(rt.alloc(), file.as_slice(), plan.as_slice())? {
         Printed::Report(text) => {
             rt.stdout().write_all(text.as_slice())?;
-            Ok(())
+            Ok(ExitCode::SUCCESS)
         }
         Printed::Refusal(line) => {
             rt.stdout().write_all(line.as_slice())?;
-            Err(anyhow!("the plan or the file is refused"))
+            Ok(ExitCode::FAILURE)
         }
     }
 }

@@ -1,6 +1,6 @@
 -- The bytes of a study are all bytes up to the greatest, in the order of their ranks; and the assignments of bytes.
 use Rattle.std.proofs.Common.{◌≡◌, ℕ, zero, suc, ◌+◌, ◌*◌, ◌<◌, ◌≤◌, List, [], ◌∷◌, map, length, refl, ap, ◌∙◌, subst, arith}
-use Rattle.std.specs.List.{range_with_len, ContainsAt as Has, flat_map, AllByRecursion as All}
+use Rattle.std.specs.List.{range_with_len, ContainsAt as Has, flat_map, AllByRecursion}
 use Rattle.std.proofs.lemmas.List.FromFn.{length-range_with_len, get_or-range_with_len}
 use Rattle.std.proofs.ByRecursion.{All-append, All-map, All-weaker, has_get_or}
 use Rattle.plans.specs.Orders.{rank}
@@ -9,7 +9,7 @@ use Rattle.theory.specs.ReadingOrder.{InOrder, ByteOrder}
 use Rattle.solutions.specs.Solved.{bytes, assignments}
 
 -- ---- bytes that are counted
-all_counted : (P : ℕ → Type 0) (n a : ℕ) → ((j : ℕ) → a ≤ j → j < a + n → P j) → All P (range_with_len a n)
+all_counted : (P : ℕ → Type 0) (n a : ℕ) → ((j : ℕ) → a ≤ j → j < a + n → P j) → AllByRecursion P (range_with_len a n)
 all_counted P zero a h = tt
 all_counted P (suc n) a h = (h a (omega arith) (omega arith), all_counted P n (a + 1) (λ j l m. h j (omega arith) (omega arith)))
 
@@ -33,12 +33,12 @@ unfolding assignments rows
 assignments_are_rows choices zero = refl
 assignments_are_rows choices (suc n) = ap (λ rs. flat_map (λ v. map (λ r. v ∷ r) rs) choices) (assignments_are_rows choices n)
 
-each_joined : {X Y : Type 0} (P : X → Type 0) (g : Y → List X) → ((v : Y) → All P (g v)) → (ys : List Y) → All P (flat_map g ys)
+each_joined : {X Y : Type 0} (P : X → Type 0) (g : Y → List X) → ((v : Y) → AllByRecursion P (g v)) → (ys : List Y) → AllByRecursion P (flat_map g ys)
 each_joined P g h [] = tt
 each_joined P g h (v ∷ ys) = All-append P (g v) (flat_map g ys) (h v) (each_joined P g h ys)
 
 -- each has a byte for each component
-pub rows_have_length : (choices : List ℕ) (n : ℕ) → All (λ (r : List ℕ). length r ≡ n) (rows choices n)
+pub rows_have_length : (choices : List ℕ) (n : ℕ) → AllByRecursion (λ (r : List ℕ). length r ≡ n) (rows choices n)
 unfolding rows
 rows_have_length choices zero = (refl, tt)
 rows_have_length choices (suc n) =

@@ -1,7 +1,7 @@
 -- The least plan by the definition in the words of plans is what the definition of the solver's argument names.
 use Rattle.std.proofs.Common.{◌≡◌, ℕ, ◌≤◌, Bool, true, false, cond, List, [], ◌∷◌, length, Some, None, Ok, Err, fold, Option, Result, sym, refl, ap, ◌∙◌}
 use Rattle.std.specs.Result.{result_ok}
-use Rattle.std.specs.List.{AllByRecursion as All}
+use Rattle.std.specs.List.{AllByRecursion}
 use Rattle.std.proofs.ByRecursion.{All-weaker}
 use Rattle.costs.specs.Kinds.{Adding}
 use Rattle.model.specs.declared.refusal.Refusal.{Refusal}
@@ -61,7 +61,7 @@ module _ {C : Type 0} (k : Adding C) (lower : C → C → Bool) where
         ∙ same_kept f best (value k (f plan)) plan
         ∙ cost_of_either f (is_lower lower (value k (f plan)) (value k (costs_of f best))) plan best
 
-    folds_alike : (xs : List (List ℕ)) → All (λ plan. value k (f plan) ≡ result_ok (judged k s b plan)) xs → (best : Option (List ℕ)) → fold (keep k lower s b) (with_cost k f best) xs ≡ with_cost k f (fold (theory.keep k lower f) best xs)
+    folds_alike : (xs : List (List ℕ)) → AllByRecursion (λ plan. value k (f plan) ≡ result_ok (judged k s b plan)) xs → (best : Option (List ℕ)) → fold (keep k lower s b) (with_cost k f best) xs ≡ with_cost k f (fold (theory.keep k lower f) best xs)
     folds_alike [] h best = refl
     folds_alike (x ∷ xs) h best =
         ap (λ o. fold (keep k lower s b) o xs) (keeps_alike best x h.0)
