@@ -2,43 +2,31 @@
 ghost use Rattle.books.specs.Laws.{GrossIsNetAndRowsUnder, ClearRulingAnswersAsBelow, BarAndLiftDecide, LiftUndoesBar, MarksStandApart, EqualLayersAreOne};
 
 // A row's gross price is its net price and the gross prices of the rows whose parent it is.
-pub fn gross_is_net_and_rows_under() -> u8
+pub fn gross_is_net_and_rows_under()
     ensures { GrossIsNetAndRowsUnder }
-{
-    0
-}
+{}
 
 // With no mark set a ruling answers as the book below, but for the height of a fault.
-pub fn clear_ruling_answers_as_below() -> u8
+pub fn clear_ruling_answers_as_below()
     ensures { ClearRulingAnswersAsBelow }
-{
-    0
-}
+{}
 
 // A question in range is barred once its mark is set, and answered from below once it is cleared.
-pub fn bar_and_lift_decide() -> u8
+pub fn bar_and_lift_decide()
     ensures { BarAndLiftDecide }
-{
-    0
-}
+{}
 
 // Barring an open question and lifting it again leaves the marks as they were.
-pub fn lift_undoes_bar() -> u8
+pub fn lift_undoes_bar()
     ensures { LiftUndoesBar }
-{
-    0
-}
+{}
 
 // Barring or lifting one question leaves every other as it was.
-pub fn marks_stand_apart() -> u8
+pub fn marks_stand_apart()
     ensures { MarksStandApart }
-{
-    0
-}
+{}
 
 // Two layers with the same marks answer as one, wherever the book below does not fault.
-pub fn equal_layers_are_one() -> u8
+pub fn equal_layers_are_one()
     ensures { EqualLayersAreOne }
-{
-    0
-}
+{}

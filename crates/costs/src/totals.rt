@@ -1,4 +1,4 @@
-// The two kinds that count money and minutes both: money first, and minutes first.
+// The kinds that count money and minutes both: money first, and minutes first.
 ghost use Rattle.std.specs.Prelude.{◌≡◌, ℕ, ◌+◌, ◌≤◌};
 ghost use Rattle.costs.specs.Postings.{most};
 ghost use Rattle.costs.specs.Kinds.{SumOf};
@@ -15,16 +15,18 @@ pub struct Total {
     pub minutes: u64,
 }
 
-impl Total {
-    fn of(posting: Posting) -> Total
-        ensures { result ≡ totals.post posting }
-    {
+impl From<Posting> for Total {
+    ghost from_gives = { λ posting total. total ≡ totals.post posting };
+
+    fn from(posting: Posting) -> Total {
         Total {
             cents: posting.cents,
             minutes: posting.minutes,
         }
     }
+}
 
+impl Total {
     fn plus(self, other: Total) -> Total
         ensures { (m n : ℕ) → SumOf totals m self → SumOf totals n other → m + n ≤ most → result ≡ both self other }
     {
@@ -35,21 +37,33 @@ impl Total {
     }
 }
 
-// Money decides, and minutes where the money is equal.
-#[derive(Clone, Copy)]
-pub struct MoneyThenMinutes;
+// A kind that counts both says which of two totals is lower, and nothing more.
+pub trait TotalOrder {
+    ghost use Rattle.std.specs.Prelude.{Bool};
+    ghost use Rattle.costs.specs.Kinds.{Laws};
+    ghost use Rattle.costs.specs.Amounts.{totals};
+    ghost use Rattle.costs.specs.declared.totals.Total.{Total};
 
-impl CostKind for MoneyThenMinutes {
+    ghost lower: { Total → Total → Bool };
+
+    // Whether the first total is lower than the second.
+    fn orders(&self, a: Total, b: Total) -> bool
+        ensures { result ≡ lower a b };
+
+    ghost laws: { Laws totals lower };
+}
+
+impl<O: TotalOrder> CostKind for O {
     type Cost = Total;
 
     ghost adding = { totals };
 
-    ghost lower = { cheaper };
+    ghost lower = { O.TotalOrder.lower };
 
-    ghost laws = { cheaper_laws };
+    ghost laws = { O.TotalOrder.laws };
 
     fn posting(&self, posting: Posting) -> Total {
-        Total::of(posting)
+        Total::from(posting)
     }
 
     fn sum(&self, a: Total, b: Total) -> Total {
@@ -57,7 +71,21 @@ impl CostKind for MoneyThenMinutes {
     }
 
     fn is_lower(&self, a: Total, b: Total) -> bool {
-        a.cents < b.cents || (a.cents == b.cents && a.minutes < b.minutes)
+        self.orders(a, b)
+    }
+}
+
+// Money decides, and minutes where the money is equal.
+#[derive(Clone, Copy)]
+pub struct MoneyThenMinutes;
+
+impl TotalOrder for MoneyThenMinutes {
+    ghost lower = { cheaper };
+
+    ghost laws = { cheaper_laws };
+
+    fn orders(&self, a: Total, b: Total) -> bool {
+        (a.cents, a.minutes) < (b.cents, b.minutes)
     }
 }
 
@@ -65,24 +93,12 @@ impl CostKind for MoneyThenMinutes {
 #[derive(Clone, Copy)]
 pub struct MinutesThenMoney;
 
-impl CostKind for MinutesThenMoney {
-    type Cost = Total;
-
-    ghost adding = { totals };
-
+impl TotalOrder for MinutesThenMoney {
     ghost lower = { sooner };
 
     ghost laws = { sooner_laws };
 
-    fn posting(&self, posting: Posting) -> Total {
-        Total::of(posting)
-    }
-
-    fn sum(&self, a: Total, b: Total) -> Total {
-        a.plus(b)
-    }
-
-    fn is_lower(&self, a: Total, b: Total) -> bool {
-        a.minutes < b.minutes || (a.minutes == b.minutes && a.cents < b.cents)
+    fn orders(&self, a: Total, b: Total) -> bool {
+        (a.minutes, a.cents) < (b.minutes, b.cents)
     }
 }

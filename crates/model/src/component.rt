@@ -23,7 +23,7 @@ pub struct Component {
 }
 
 // The number that marks a component without a parent.
-const NO_PARENT: u8 = 255;
+pub const NO_PARENT: u8 = 255;
 
 // The parent that a number names: none for 255.
 pub fn parent_of(number: u8) -> Option<u8>

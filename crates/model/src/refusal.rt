@@ -1,5 +1,6 @@
 // Why a call was refused: the question that failed, with what it speaks of.
 ghost use Rattle.std.specs.Prelude.{◌≡◌};
+ghost use Rattle.model.specs.declared.refusal.Refusal.TheVariants.{BookFault};
 ghost use Rattle.model.specs.Refusals.{said};
 
 use crate::answer::Fault;
@@ -38,6 +39,14 @@ pub enum Refusal {
     ShortPlace,
     NoChargeRecord,
     ShortReportPlace,
+}
+
+impl From<Fault> for Refusal {
+    ghost from_gives = { λ fault refusal. refusal ≡ BookFault fault };
+
+    fn from(fault: Fault) -> Refusal {
+        Refusal::BookFault(fault)
+    }
 }
 
 impl Refusal {

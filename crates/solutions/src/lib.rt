@@ -4,8 +4,6 @@
 ghost use Rattle.solutions.specs.Promises.{SolvesLeastAndFirst};
 
 // Every solve that is ready answers the least plan, first in reading order, exactly when a plan exists.
-pub fn solves_least_and_first<C>() -> u8
+pub fn solves_least_and_first<C>()
     ensures { SolvesLeastAndFirst C }
-{
-    0
-}
+{}
