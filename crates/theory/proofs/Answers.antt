@@ -1,8 +1,9 @@
 -- The definition that goes through every row of bytes decides: it meets the answer's relation, which one row meets.
-use Rattle.std.proofs.Common.{◌≡◌, ℕ, ◌≤◌, Bool, true, false, cond, List, length, Some, None, Option, sym, refl, ap, ◌∙◌, subst, ⊎_elim, arith}
+use Rattle.std.proofs.Common.{◌≡◌, ℕ, ◌≤◌, Bool, false, List, length, Some, None, Option, sym, refl, ap, ◌∙◌, subst, ⊎_elim, arith}
 use Rattle.std.specs.List.{ContainsAt as Has, AllByRecursion}
 use Rattle.std.proofs.ByRecursion.{All-weaker}
-use Rattle.std.proofs.lemmas.Bool.{false≢true}
+use Rattle.std.proofs.lemmas.Bool.{both_ways}
+use Rattle.std.proofs.lemmas.Option.{none-some}
 use Rattle.costs.specs.Kinds.{Adding, Laws}
 use Rattle.theory.specs.Entries.{sum}
 use Rattle.theory.specs.Ranks.{Ranked}
@@ -10,7 +11,7 @@ use Rattle.theory.specs.Amounts.{Amount, value, precedes}
 use Rattle.theory.specs.ReadingOrder.{row_number, ByteOrder}
 use Rattle.theory.specs.Answers.{IsPlan, Answer, rows, solved, Bytewise, Decided}
 use Rattle.theory.proofs.Sums.{sum_known}
-use Rattle.theory.proofs.Precedence.{between_open}
+use Rattle.theory.proofs.Precedence.{open_is_before_none, neither_is_same, between_open}
 use Rattle.theory.proofs.ReadingOrder.{before_is_lower, first_of_two}
 use Rattle.theory.proofs.Rows.{rows_in_order, all_rows}
 use Rattle.theory.proofs.Folds.{after_none, KeptAll, keep_all}
@@ -35,7 +36,7 @@ module _ {C : Type 0} {k : Adding C} {lower : C → C → Bool} (laws : Laws k l
   one_answer r s p q =
       let sr = sum_known k (costs r).row (ok.fits r) in
       let ss = sum_known k (costs s).row (ok.fits s) in
-      let tie = laws.neither_is_same ss.0 sr.0 (sum k (costs s).row) (sum k (costs r).row) ss.2 sr.2 ss.1 sr.1 (p.least s q.plan) (q.least r p.plan) in
+      let tie = neither_is_same laws (sum k (costs s).row) (sum k (costs r).row) ss sr (p.least s q.plan) (q.least r p.plan) in
       ⊎_elim (λ e. e)
       (λ b. ⊎_elim sym
       (λ c. absurd (omega (arith, before_is_lower rank top ranks 0 r s (same_size r s p.plan q.plan) (ok.bytes r p.plan) b, before_is_lower rank top ranks 0 s r (same_size s r q.plan p.plan) (ok.bytes s q.plan) c)))
@@ -49,7 +50,7 @@ module _ {C : Type 0} {k : Adding C} {lower : C → C → Bool} (laws : Laws k l
 
   pub decided : (o : Option (List ℕ)) → Decides o → Decided k lower rank costs o
   decided None h = record {
-    is_answer = λ r e. absurd (let w : ◌≡◌ {A = ℕ} 0 1 = cc in omega arith);
+    is_answer = λ r e. absurd (none-some r e);
     answer_is = λ r a. absurd (h r a.plan);
     none_without_plan = λ _. h;
     one_with_plan = λ y p. absurd (h y p);
@@ -57,7 +58,7 @@ module _ {C : Type 0} {k : Adding C} {lower : C → C → Bool} (laws : Laws k l
   decided (Some r) h = record {
     is_answer = λ s e. let is : r ≡ s = cc in subst (Answer k lower rank costs) is h;
     answer_is = λ s a. ap Some (one_answer r s h a);
-    none_without_plan = λ e. absurd (let w : ◌≡◌ {A = ℕ} 0 1 = cc in omega arith);
+    none_without_plan = λ e. absurd (none-some r (sym e));
     one_with_plan = λ y p. (r, refl);
   }
 
@@ -77,8 +78,7 @@ module _ {C : Type 0} {k : Adding C} {lower : C → C → Bool} (laws : Laws k l
 
   kept_decides : (o : Option (List ℕ)) → KeptAll laws costs ok.fits (row_number rank 0) None (rows bytes n) o → Decides o
   kept_decides None h = λ y e. let b = of_every_row (λ y. precedes lower (value k (costs y)) (row_number rank 0 y) None 0 ≡ false) h.1 y e in
-      let t : true ≡ false = subst (λ m. precedes lower (cond m (Some (sum k (costs y).row)) None) (row_number rank 0 y) None 0 ≡ false) e b in
-      absurd (false≢true (sym t))
+      absurd (both_ways _ b (open_is_before_none k lower (costs y) (row_number rank 0 y) 0 e))
   kept_decides (Some r) h = first_is_answer r h.2 (λ y e. of_every_row (λ y. precedes lower (value k (costs y)) (row_number rank 0 y) (value k (costs r)) (row_number rank 0 r) ≡ false) h.1 y e)
 
   -- the definition decides

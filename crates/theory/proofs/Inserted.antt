@@ -1,5 +1,6 @@
 -- What is put onto a component's sums stands somewhere in the total, and so it may as well stand at the end.
-use Rattle.std.proofs.Common.{◌≡◌, ℕ, zero, suc, ◌+◌, ◌<◌, ◌≤◌, Bool, true, false, cond, ◌&&◌, List, [], ◌++◌, length, Some, None, sym, refl, ap, ◌∙◌, subst, subst₂, inl, inr, append_assoc, append-nil, arith, length-append}
+use Rattle.std.proofs.Common.{◌≡◌, ℕ, zero, suc, ◌+◌, ◌<◌, ◌≤◌, Bool, cond, ◌&&◌, List, [], ◌++◌, length, Some, None, sym, refl, ap, ◌∙◌, subst, subst₂, inl, inr, append_assoc, append-nil, arith, length-append}
+use Rattle.std.proofs.Math.Bool.{and_assoc, and_comm}
 use Rattle.std.proofs.lemmas.Bool.{eq-eqb, ne_eqb, cases_eq}
 use Rattle.costs.specs.Postings.{most}
 use Rattle.costs.specs.Kinds.{Adding, Laws}
@@ -16,16 +17,6 @@ pub record Inserted (a w b : Amount) : Type 0 where
   pub without : a.row ≡ fore ++ aft
   pub with_it : b.row ≡ fore ++ (w.row ++ aft)
 
-and_turn : (x y v : Bool) → (x && y) && v ≡ (x && v) && y
-and_turn true true v = elim v as (λ v. v ≡ v && true) [ true ↦ refl | false ↦ refl ]
-and_turn true false v = elim v as (λ v. false ≡ v && false) [ true ↦ refl | false ↦ refl ]
-and_turn false y v = refl
-
-and_group : (x y v u : Bool) → x && (y && (v && u)) ≡ (x && (y && v)) && u
-and_group true true v u = refl
-and_group true false v u = refl
-and_group false y v u = refl
-
 at_end : (a w : Amount) → Inserted a w (both a w)
 at_end a w = record { fore = a.row; aft = []; opens = refl; without = sym (append-nil a.row); with_it = ap (λ r. a.row ++ r) (sym (append-nil w.row)) }
 
@@ -33,7 +24,7 @@ at_inner_end : (a o e w : Amount) → Inserted (both a (both o e)) w (both a (bo
 at_inner_end a o e w = record {
   fore = a.row ++ (o.row ++ e.row);
   aft = [];
-  opens = and_group a.is_open o.is_open e.is_open w.is_open;
+  opens = simp and_assoc;
   without = sym (append-nil _);
   with_it = simp (append_assoc, append-nil);
 }
@@ -42,7 +33,7 @@ before_more : (a w b x : Amount) → Inserted a w b → Inserted (both a x) w (b
 before_more a w b x s = record {
   fore = s.fore;
   aft = s.aft ++ x.row;
-  opens = ap (λ g. g && x.is_open) s.opens ∙ and_turn a.is_open w.is_open x.is_open;
+  opens = ap (λ g. g && x.is_open) s.opens ∙ simp and_assoc (ap (λ g. a.is_open && g) (and_comm w.is_open x.is_open));
   without = ap (λ r. r ++ x.row) s.without ∙ append_assoc s.fore s.aft x.row;
   with_it = ap (λ r. r ++ x.row) s.with_it ∙ simp append_assoc;
 }

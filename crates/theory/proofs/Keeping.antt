@@ -2,12 +2,12 @@
 use Rattle.std.proofs.Common.{◌≡◌, ℕ, ◌+◌, ◌*◌, ◌<◌, ◌≤◌, Bool, true, false, cond, ◌&&◌, ◌⊎◌, List, [], ◌∷◌, ◌++◌, length, pos, ◌≤ℤ◌, Some, None, sym, refl, ap, subst, subst₂, inl, inr, arith, length-append}
 use Rattle.std.proofs.lemmas.Bool.Decides.{nat_tests}
 use Rattle.costs.specs.Postings.{most}
-use Rattle.costs.specs.Kinds.{Adding, SumOf, join, Laws}
+use Rattle.costs.specs.Kinds.{Adding, SumOf, join, Laws, Cost}
 use Rattle.theory.specs.Entries.{Entry, post, sum}
 use Rattle.theory.specs.Amounts.{Amount, both, value, precedes}
 use Rattle.theory.specs.Ranks.{base}
 use Rattle.theory.proofs.Sums.{one_of, sum_known, sum_of, sum_push, sum_lower, sum_same}
-use Rattle.theory.proofs.Precedence.{one_way, not_lower}
+use Rattle.theory.proofs.Precedence.{not_of_itself, neither_is_same, row_not_lower, one_way, not_lower}
 
 -- both rows have a posting; or they are one row at one rank
 abbrev pub Posted : List Entry → ℕ → List Entry → ℕ → Type 0
@@ -24,9 +24,9 @@ module _ {C : Type 0} {k : Adding C} {lower : C → C → Bool} (laws : Laws k l
       let srv = sum_known k (r ++ v) (omega arith) in
       let up = sum_lower laws r v u i h m l in
       let back = one_way laws (sum k (r ++ v)) (sum k (r ++ u)) srv sru in
-      let tie = laws.neither_is_same su.0 sv.0 (sum k u) (sum k v) su.2 sv.2 su.1 sv.1 in
+      let tie = neither_is_same laws (sum k u) (sum k v) su sv in
       let alike = sum_same laws r u v h i l m in
-      let none = laws.not_of_itself srv.0 (sum k (r ++ v)) srv.2 srv.1 in
+      let none = row_not_lower laws (r ++ v) (omega arith) in
       grind (arith, nat_tests)
 
   -- u with rank x does not precede v with rank y: nor does it with r in front of both, and n in front of both ranks
@@ -42,8 +42,7 @@ module _ {C : Type 0} {k : Adding C} {lower : C → C → Bool} (laws : Laws k l
         | inl h ↦ keeps_row n x y r.row u.row v.row l m h.0 h.1 p
         | inr h ↦ let same = ap (λ w. sum k (r.row ++ w)) h.0 in
             let lv = length-append r.row v.row in
-            let sv = sum_known k (r.row ++ v.row) (omega arith) in
-            let none = laws.not_of_itself sv.0 (sum k (r.row ++ v.row)) sv.2 sv.1 in
+            let none = row_not_lower laws (r.row ++ v.row) (omega arith) in
             grind (arith, nat_tests)
       ]
 
@@ -58,9 +57,10 @@ module _ {C : Type 0} {k : Adding C} {lower : C → C → Bool} (laws : Laws k l
   after_both l m a b p s t h i e =
       let c = post k p in
       let up = laws.stays_lower m l 1 b a c t s (one_of k p) (omega arith) (omega arith) in
-      let back = one_way laws (k.plus b c) (k.plus a c) (m + 1, i, join m 1 b c t (one_of k p)) (l + 1, h, join l 1 a c s (one_of k p)) in
+      let with_b : Cost k (k.plus b c) = (m + 1, i, join m 1 b c t (one_of k p)) in
+      let back = one_way laws (k.plus b c) (k.plus a c) with_b (l + 1, h, join l 1 a c s (one_of k p)) in
       let tie = laws.neither_is_same l m a b s t (omega arith) (omega arith) e in
-      let none = laws.not_of_itself (m + 1) (k.plus b c) (join m 1 b c t (one_of k p)) i in
+      let none = not_of_itself laws (k.plus b c) with_b in
       grind arith
 
   -- one posting behind both rows
@@ -74,9 +74,6 @@ module _ {C : Type 0} {k : Adding C} {lower : C → C → Bool} (laws : Laws k l
       let su = sum_of k u h in
       let step = laws.never_lowers (length u) (sum k u) p.posting su l p.within gain in
       subst (λ x. lower x (sum k v) ≡ false) (sym (sum_push k u p h)) (not_lower laws (k.plus (sum k u) (post k p)) (sum k u) (sum k v) (length u + 1, l, join (length u) 1 (sum k u) (post k p) su (one_of k p)) (sum_known k u (omega arith)) (sum_known k v m) step e)
-
-  pub row_not_lower : (u : List Entry) → length u ≤ most → lower (sum k u) (sum k u) ≡ false
-  row_not_lower u l = let s = sum_known k u l in laws.not_of_itself s.0 (sum k u) s.2 s.1
 
 -- rows that are not lower, as amounts at one number
 pub not_lower_precedes : {C : Type 0} (k : Adding C) (lower : C → C → Bool) (o : Bool) (x : ℕ) (u v : List Entry) → lower (sum k u) (sum k v) ≡ false → precedes lower (value k (record { is_open = o; row = u })) x (value k (record { is_open = o; row = v })) x ≡ false

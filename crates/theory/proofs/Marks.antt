@@ -1,6 +1,6 @@
 -- Closing the options that need a shut pair leaves the plans that need none, at what they post, and no other.
-use Rattle.std.proofs.Common.{◌≡◌, ℕ, zero, suc, ◌*◌, Bool, true, false, cond, ◌&&◌, ◌||◌, eqb, Option, sym, refl, ◌∙◌, subst, ap₂, ⊎_elim, arith}
-use Rattle.std.proofs.lemmas.Bool.{cases_eq, false≢true, and_parts, or_parts, or_from, or_left, or_right, or_cases}
+use Rattle.std.proofs.Common.{◌≡◌, ℕ, zero, suc, ◌*◌, Bool, true, false, cond, ◌&&◌, ◌||◌, eqb, Option, sym, refl, subst, ap₂, ⊎_elim, arith}
+use Rattle.std.proofs.lemmas.Bool.{cases_eq, false≢true, both_ways, false_from_ne_true, and_parts, and_from, or_parts, or_from, or_left, or_right, or_cases}
 use Rattle.theory.specs.Entries.{Entry}
 use Rattle.theory.specs.Amounts.{Amount, nothing, closed, both}
 use Rattle.theory.specs.Options.{Options, posted, route}
@@ -12,21 +12,15 @@ use Rattle.theory.specs.Marks.{blocked, Clear, unless, allowed, marked}
 pub clear_from : (shut f : ℕ → Bool) (m : ℕ) → blocked shut f m ≡ false → Clear shut m f
 clear_from shut f zero e j l fj = absurd (omega arith)
 clear_from shut f (suc m) e j l fj = ⊎_elim
-    (λ is. let h = subst (λ i. f i ≡ true) is fj in subst (λ i. shut i ≡ false) (sym is) (go (f m) (shut m) h (or_parts _ _ e).1))
+    (λ is. let h = subst (λ i. f i ≡ true) is fj in subst (λ i. shut i ≡ false) (sym is) (false_from_ne_true (shut m) (λ s. both_ways _ (or_parts _ _ e).1 (and_from _ _ h s))))
     (λ n. clear_from shut f m (or_parts _ _ e).0 j (omega arith) fj)
     (cases_eq j m)
-  where
-    go : (x y : Bool) → x ≡ true → x && y ≡ false → y ≡ false
-    go true y h r = r
-    go false y h r = absurd (false≢true h)
 
 pub from_clear : (shut f : ℕ → Bool) (m : ℕ) → Clear shut m f → blocked shut f m ≡ false
 from_clear shut f zero h = refl
-from_clear shut f (suc m) h = or_from (blocked shut f m) (f m && shut m) (from_clear shut f m (λ j l. h j (omega arith))) (go (f m) (shut m) (h m (omega arith)))
-  where
-    go : (x y : Bool) → (x ≡ true → y ≡ false) → x && y ≡ false
-    go true y r = r refl
-    go false y r = refl
+from_clear shut f (suc m) h =
+    or_from (blocked shut f m) (f m && shut m) (from_clear shut f m (λ j l. h j (omega arith)))
+    (false_from_ne_true _ (λ both. let p = and_parts (f m) (shut m) both in both_ways _ (h m (omega arith) p.0) p.1))
 
 -- a is an amount that needs the pairs f, b the same under the marks: b is closed, or it is a, which is clear
 pub record Allowed (shut : ℕ → Bool) (m : ℕ) (a b : Amount) (f : ℕ → Bool) : Type 0 where
@@ -38,7 +32,7 @@ module _ (shut : ℕ → Bool) (m : ℕ) where
   allowed_option f x = go (blocked shut f m) refl
     where
       go : (c : Bool) → blocked shut f m ≡ c → Allowed shut m (posted x) (posted (unless c x)) f
-      go true e = record { out = λ h. absurd (false≢true h); into = λ _ h. absurd (false≢true (sym (from_clear shut f m h) ∙ e)) }
+      go true e = record { out = λ h. absurd (false≢true h); into = λ _ h. absurd (both_ways _ (from_clear shut f m h) e) }
       go false e = record { out = λ _. (refl, clear_from shut f m e); into = λ _ _. refl }
 
   allowed_both : (a b c d : Amount) (f g : ℕ → Bool) → Allowed shut m a b f → Allowed shut m c d g → Allowed shut m (both a c) (both b d) (λ j. f j || g j)

@@ -7,7 +7,8 @@ use Rattle.theory.specs.Entries.{Entry, sum}
 use Rattle.theory.specs.Amounts.{Amount, Fits, both, value, precedes}
 use Rattle.theory.specs.Searches.{pair_postings, with_pairs}
 use Rattle.theory.proofs.Sums.{sum_turn}
-use Rattle.theory.proofs.Keeping.{keeps_plain, on_both, more_not_lower, row_not_lower}
+use Rattle.theory.proofs.Precedence.{row_not_lower}
+use Rattle.theory.proofs.Keeping.{keeps_plain, on_both, more_not_lower}
 
 module _ (q : ℕ → Entry) where
   pub pairs_length : (f : ℕ → Bool) (n : ℕ) → length (pair_postings q f n) ≤ n

@@ -1,9 +1,10 @@
 -- Costs with their numbers in reading order are in order: none precedes itself, and what precedes is passed on.
-use Rattle.std.proofs.Common.{◌≡◌, ℕ, ◌≤◌, Bool, true, false, cond, Some, None, Option, sym, refl, ap, subst, subst₂, arith}
+use Rattle.std.proofs.Common.{◌≡◌, ℕ, ◌≤◌, Bool, true, false, cond, List, length, Some, None, Option, sym, refl, ap, subst, subst₂, arith}
 use Rattle.std.proofs.lemmas.Bool.Decides.{nat_tests}
 use Rattle.std.proofs.lemmas.Bool.{or_parts}
 use Rattle.costs.specs.Kinds.{Adding, Laws, Cost}
-use Rattle.theory.specs.Entries.{sum}
+use Rattle.costs.specs.Postings.{most}
+use Rattle.theory.specs.Entries.{Entry, sum}
 use Rattle.theory.specs.Amounts.{Amount, Fits, value, Known, precedes}
 use Rattle.theory.proofs.Sums.{sum_known}
 
@@ -15,6 +16,10 @@ pub none_is_last : {C : Type 0} (lower : C → C → Bool) (v : Option C) (x y :
 none_is_last lower None x y = refl
 none_is_last lower (Some b) x y = refl
 
+-- an open amount precedes none
+pub open_is_before_none : {C : Type 0} (k : Adding C) (lower : C → C → Bool) (a : Amount) (x y : ℕ) → a.is_open ≡ true → precedes lower (value k a) x None y ≡ true
+open_is_before_none k lower a x y e = ap (λ o. precedes lower (cond o (Some (sum k a.row)) None) x None y) e
+
 -- the same costs, and numbers in an order that is no better
 pub weaker : {C : Type 0} (lower : C → C → Bool) (u v : Option C) (x y x' y' : ℕ) → (y ≤ x → y' ≤ x') → precedes lower u x v y ≡ false → precedes lower u x' v y' ≡ false
 weaker lower None None x y x' y' f e = refl
@@ -23,16 +28,29 @@ weaker lower (Some a) None x y x' y' f e = e
 weaker lower (Some a) (Some b) x y x' y' f e = grind (arith, nat_tests)
 
 module _ {C : Type 0} {k : Adding C} {lower : C → C → Bool} (laws : Laws k lower) where
+  -- the laws of the order, for costs
+  over : (a b c : C) → Cost k a → Cost k b → Cost k c → lower a b ≡ true → lower b c ≡ true → lower a c ≡ true
+  over a b c s t u = laws.transitive s.0 t.0 u.0 a b c s.2 t.2 u.2 s.1 t.1 u.1
+
+  pub not_of_itself : (a : C) → Cost k a → lower a a ≡ false
+  not_of_itself a s = laws.not_of_itself s.0 a s.2 s.1
+
+  pub neither_is_same : (a b : C) → Cost k a → Cost k b → lower a b ≡ false → lower b a ≡ false → a ≡ b
+  neither_is_same a b s t = laws.neither_is_same s.0 t.0 a b s.2 t.2 s.1 t.1
+
+  pub row_not_lower : (u : List Entry) → length u ≤ most → lower (sum k u) (sum k u) ≡ false
+  row_not_lower u l = not_of_itself (sum k u) (sum_known k u l)
+
   pub one_way : (a b : C) → Cost k a → Cost k b → lower a b ≡ true → lower b a ≡ false
   one_way a b s t e =
-      let over = laws.transitive s.0 t.0 s.0 a b a s.2 t.2 s.2 s.1 t.1 s.1 e in
-      let not-self = laws.not_of_itself s.0 a s.2 s.1 in
+      let back = over a b a s t s e in
+      let not-self = not_of_itself a s in
       grind arith
 
   pub not_lower : (a b c : C) → Cost k a → Cost k b → Cost k c → lower a b ≡ false → lower b c ≡ false → lower a c ≡ false
   not_lower a b c s t u p q =
-      let over = laws.transitive t.0 s.0 u.0 b a c t.2 s.2 u.2 t.1 s.1 u.1 in
-      let same = laws.neither_is_same s.0 t.0 a b s.2 t.2 s.1 t.1 p in
+      let behind = over b a c t s u in
+      let same = neither_is_same a b s t p in
       grind arith
 
   -- what does not precede the second, where the second does not precede the third, does not precede the third
@@ -53,7 +71,7 @@ module _ {C : Type 0} {k : Adding C} {lower : C → C → Bool} (laws : Laws k l
   -- no cost precedes itself, unless by a lower number
   pub not_itself : (u : Option C) (x y : ℕ) → y ≤ x → Known k u → precedes lower u x u y ≡ false
   not_itself None x y l g = refl
-  not_itself (Some a) x y l g = let e = laws.not_of_itself g.0 a g.2 g.1 in grind (arith, nat_tests)
+  not_itself (Some a) x y l g = let e = not_of_itself a g in grind (arith, nat_tests)
 
   pub turned : (u v : Option C) (x y : ℕ) → Known k u → Known k v → precedes lower u x v y ≡ true → precedes lower v y u x ≡ false
   turned None None x y g h e = refl
@@ -66,7 +84,7 @@ module _ {C : Type 0} {k : Adding C} {lower : C → C → Bool} (laws : Laws k l
   same_cost None None x g h p q = refl
   same_cost None (Some b) x g h p q = cc
   same_cost (Some a) None x g h p q = cc
-  same_cost (Some a) (Some b) x g h p q = ap Some (laws.neither_is_same g.0 h.0 a b g.2 h.2 g.1 h.1 (or_parts _ _ p).0 (or_parts _ _ q).0)
+  same_cost (Some a) (Some b) x g h p q = ap Some (neither_is_same a b g h (or_parts _ _ p).0 (or_parts _ _ q).0)
 
   -- the same two for amounts that fit
   pub pass : (a b c : Amount) (x y t : ℕ) → Fits a → Fits b → Fits c → precedes lower (value k a) x (value k b) y ≡ false → precedes lower (value k b) y (value k c) t ≡ false → precedes lower (value k a) x (value k c) t ≡ false
@@ -79,6 +97,5 @@ module _ {C : Type 0} {k : Adding C} {lower : C → C → Bool} (laws : Laws k l
   pub between_open : (a b : Amount) (x y : ℕ) → Fits b → a.is_open ≡ true → b.is_open ≡ true → precedes lower (value k a) x (value k b) y ≡ false → (lower (sum k a.row) (sum k b.row) ≡ false) × (sum k a.row ≡ sum k b.row → y ≤ x)
   between_open a b x y fb p q e =
       let h : precedes lower (Some (sum k a.row)) x (Some (sum k b.row)) y ≡ false = subst₂ (λ m n. precedes lower (cond m (Some (sum k a.row)) None) x (cond n (Some (sum k b.row)) None) y ≡ false) p q e in
-      let s = sum_known k b.row fb in
-      let none = laws.not_of_itself s.0 (sum k b.row) s.2 s.1 in
+      let none = row_not_lower b.row fb in
       ((or_parts _ _ h).0, λ same. let l = subst (λ c. lower (sum k b.row) c ≡ false) (sym same) none in grind (arith, nat_tests))

@@ -3,7 +3,6 @@ use Rattle.std.proofs.Common.{◌≡◌, ℕ, ◌+◌, ◌≤◌, Bool, true, fa
 use Rattle.std.proofs.lemmas.Bool.{eq-eqb, eqb-true, and_parts, and_from, not-true, not_from_false}
 use Rattle.costs.specs.Postings.{most}
 use Rattle.costs.specs.Kinds.{Adding, Laws}
-use Rattle.theory.specs.Entries.{Entry}
 use Rattle.theory.specs.Amounts.{Amount, value, precedes}
 use Rattle.theory.specs.Breakdowns.{spent, number}
 use Rattle.theory.specs.Tables.{Table, Sound, top_byte, breakdown, walked}
@@ -12,14 +11,12 @@ use Rattle.theory.specs.Searches.{Countable, IsClear, cost, Walked}
 use Rattle.theory.specs.ReadingOrder.{row_number}
 use Rattle.theory.specs.Answers.{IsPlan, Bytewise}
 use Rattle.theory.specs.Problems.{Problem, Proper, bytes_of, row_of, options_of, needs_of, if_whole, plans, costs, under, walk}
+use Rattle.theory.proofs.Routes.{amount}
 use Rattle.theory.proofs.Tables.{spent_fits, open_bytes, open_posts}
 use Rattle.theory.proofs.Walked.{walked_whole, walked_first}
 use Rattle.theory.proofs.Marks.{clear_from, from_clear, allowed_spent, marked_sound}
 use Rattle.theory.proofs.Pairs.{pairs_fit}
 use Rattle.theory.proofs.RowsOfBytes.{row_length, row_bytes, number_of_row, number_of_bytes, spent_same, needed_same, bytes_up_to}
-
-abbrev amount : Bool → List Entry → Amount
-amount o r = record { is_open = o; row = r }
 
 module _ (y : Problem) (ok : Proper y) where
   whole_row : (r : List ℕ) (a : Amount) → length r ≡ y.table.size → if_whole y r a ≡ a

@@ -1,7 +1,8 @@
 -- What a byte posts from a place: the three ways on, their lengths, and the bytes that are open.
-use Rattle.std.proofs.Common.{◌≡◌, ℕ, zero, suc, ◌-◌, ◌*◌, ◌<◌, ◌≤◌, Bool, true, false, ◌&&◌, eqb, List, ◌++◌, length, Some, None, Option, sym, refl, ap, ◌∙◌, subst, ⊎_elim, append_assoc, append-nil, arith, length-append}
+use Rattle.std.proofs.Common.{◌≡◌, ℕ, zero, suc, ◌-◌, ◌*◌, ◌<◌, ◌≤◌, Bool, true, cond, eqb, List, length, Some, None, Option, ◌∙◌, ap₂, append_assoc, append-nil, arith, length-append}
+use Rattle.std.proofs.Math.Bool.{and_assoc, and-true}
 use Rattle.std.proofs.lemmas.Bool.Decides.{nat_tests}
-use Rattle.std.proofs.lemmas.Bool.{eq-eqb, ne_eqb, cases_eq, and_parts, false≢true, cond-true, cond-false}
+use Rattle.std.proofs.lemmas.Bool.{eq-eqb, ne_eqb, eqb-true, eqb-false, and_parts, false≢true, cond-true, cond-false, cond_both}
 use Rattle.theory.specs.Entries.{Entry}
 use Rattle.theory.specs.Amounts.{Amount, nothing, both}
 use Rattle.theory.specs.Places.{Places, Rising}
@@ -15,22 +16,14 @@ pub repair_repairs_here : (e : ℕ) → repaired_at (2 * e) ≡ e
 repair_repairs_here e = grind (arith, nat_tests)
 
 -- ---- amounts
-and_assoc : (x y v : Bool) → (x && y) && v ≡ x && (y && v)
-and_assoc true y v = refl
-and_assoc false y v = refl
-
-and_true : (x : Bool) → x && true ≡ x
-and_true true = refl
-and_true false = refl
-
-abbrev amount : Bool → List Entry → Amount
+abbrev pub amount : Bool → List Entry → Amount
 amount o r = record { is_open = o; row = r }
 
 pub both_assoc : (a b c : Amount) → both (both a b) c ≡ both a (both b c)
-both_assoc a b c = ap (λ o. amount o ((a.row ++ b.row) ++ c.row)) (and_assoc a.is_open b.is_open c.is_open) ∙ ap (amount (a.is_open && (b.is_open && c.is_open))) (append_assoc a.row b.row c.row)
+both_assoc a b c = ap₂ amount (and_assoc a.is_open b.is_open c.is_open) (append_assoc a.row b.row c.row)
 
 pub both_nothing : (a : Amount) → both a nothing ≡ a
-both_nothing a = ap (λ o. amount o (a.row ++ nothing.row)) (and_true a.is_open) ∙ ap (amount a.is_open) (append-nil a.row)
+both_nothing a = ap₂ amount (and-true a.is_open) (append-nil a.row)
 
 pub posted_length : (x : Option Entry) → length (posted x).row ≤ 1
 posted_length None = omega arith
@@ -41,6 +34,15 @@ posted_open None e = absurd (false≢true e)
 posted_open (Some p) e = omega arith
 
 -- ---- routes
+-- what holds of each of the three ways on from place e with byte b holds of the one that b takes
+pub ways_on :
+    {A : Type 0} (b e : ℕ) (x y z : A) (Q : A → Type 0) → (suc b ≡ 2 * e → Q x) → (b ≡ 2 * e → Q y) → ((suc b ≡ 2 * e → ⊥) → (b ≡ 2 * e → ⊥) → Q z)
+    → Q (cond (eqb (suc b) (2 * e)) x (cond (eqb b (2 * e)) y z))
+ways_on b e x y z Q d r m =
+    cond_both (eqb (suc b) (2 * e)) x (cond (eqb b (2 * e)) y z) Q
+    (λ t. d (eqb-true _ _ t))
+    (λ t. cond_both (eqb b (2 * e)) y z Q (λ u. r (eqb-true _ _ u)) (λ u. m (eqb-false _ _ t) (eqb-false _ _ u)))
+
 module _ (up : ℕ → ℕ) (o : Options) where
   pub route_discard : (left e b : ℕ) → suc b ≡ 2 * e → route up o (suc left) e b ≡ posted (o.discard e)
   route_discard left e b h = cond-true (eqb (suc b) (2 * e)) _ _ (eq-eqb (suc b) (2 * e) h)
@@ -53,10 +55,7 @@ module _ (up : ℕ → ℕ) (o : Options) where
 
   -- what holds of each of the three ways on holds of the route
   pub route_ways : (left e b : ℕ) (Q : Amount → Type 0) → (suc b ≡ 2 * e → Q (posted (o.discard e))) → (b ≡ 2 * e → Q (posted (o.repair e))) → ((suc b ≡ 2 * e → ⊥) → (b ≡ 2 * e → ⊥) → Q (both (posted (o.move e)) (route up o left (up e) b))) → Q (route up o (suc left) e b)
-  route_ways left e b Q d r m = ⊎_elim
-      (λ h. subst Q (sym (route_discard left e b h)) (d h))
-      (λ n. ⊎_elim (λ h. subst Q (sym (route_repair left e b h)) (r h)) (λ n'. subst Q (sym (route_move left e b n n')) (m n n')) (cases_eq b (2 * e)))
-      (cases_eq (suc b) (2 * e))
+  route_ways left e b Q = ways_on b e _ _ _ Q
 
   -- at most one posting for each place left
   pub route_length : (left e b : ℕ) → length (route up o left e b).row ≤ left

@@ -26,39 +26,41 @@ module _ {X Y : Type 0} where
   all_map_out Q g [] h = tt
   all_map_out Q g (y ∷ ys) h = (h.0, all_map_out Q g ys h.1)
 
-  all_joined : (Q : X → Type 0) (g : Y → List X) (ys : List Y) → AllByRecursion (λ y. AllByRecursion Q (g y)) ys → AllByRecursion Q (flat_map g ys)
-  all_joined Q g [] h = tt
-  all_joined Q g (y ∷ ys) h = All-append Q (g y) (flat_map g ys) h.0 (all_joined Q g ys h.1)
+  all_joined : (P : Y → Type 0) (Q : X → Type 0) (g : Y → List X) → ((y : Y) → P y → AllByRecursion Q (g y)) → (ys : List Y) → AllByRecursion P ys → AllByRecursion Q (flat_map g ys)
+  all_joined P Q g f [] h = tt
+  all_joined P Q g f (y ∷ ys) h = All-append Q (g y) (flat_map g ys) (f y h.0) (all_joined P Q g f ys h.1)
 
   all_joined_out : (Q : X → Type 0) (g : Y → List X) (ys : List Y) → AllByRecursion Q (flat_map g ys) → AllByRecursion (λ y. AllByRecursion Q (g y)) ys
   all_joined_out Q g [] h = tt
   all_joined_out Q g (y ∷ ys) h = let r = all_append_out Q (g y) (flat_map g ys) h in (r.0, all_joined_out Q g ys r.1)
 
 -- ---- the rows
-abbrev RowOf : ℕ → ℕ → List ℕ → Type 0
+abbrev pub RowOf : ℕ → ℕ → List ℕ → Type 0
 RowOf top n r = (length r ≡ n) × AllByRecursion (λ b. b ≤ top) r
 
 -- the rows that begin with byte b
 abbrev beginning : List ℕ → ℕ → ℕ → List (List ℕ)
 beginning bytes n b = map (λ r. b ∷ r) (rows bytes n)
 
-module _ (rank : ℕ → ℕ) (top : ℕ) (ranks : Ranked rank top) (bytes : List ℕ) (low : AllByRecursion (λ b. b ≤ top) bytes) (up : InOrder rank bytes) where
-  rows_are_rows : (n : ℕ) → AllByRecursion (RowOf top n) (rows bytes n)
+module _ (top : ℕ) (bytes : List ℕ) (low : AllByRecursion (λ b. b ≤ top) bytes) where
+  pub rows_are_rows : (n : ℕ) → AllByRecursion (RowOf top n) (rows bytes n)
   unfolding rows
   rows_are_rows zero = ((refl, tt), tt)
   rows_are_rows (suc n) =
-      all_joined (RowOf top (suc n)) (beginning bytes n) bytes
-      (All-weaker (λ b. b ≤ top) (λ b. AllByRecursion (RowOf top (suc n)) (beginning bytes n b))
+      all_joined (λ b. b ≤ top) (RowOf top (suc n)) (beginning bytes n)
       (λ b l. All-map (RowOf top (suc n)) (λ r. b ∷ r) (rows bytes n) (All-weaker (RowOf top n) (λ r. RowOf top (suc n) (b ∷ r)) (λ r h. (ap suc h.0, (l, h.1))) (rows bytes n) (rows_are_rows n)))
-      bytes low)
+      bytes low
 
+  -- what holds of each row behind b holds of the rows that begin with b
+  all_beginning : (Q : List ℕ → Type 0) (n b : ℕ) → ((r : List ℕ) → RowOf top n r → Q (b ∷ r)) → AllByRecursion Q (beginning bytes n b)
+  all_beginning Q n b h = All-map Q (λ r. b ∷ r) (rows bytes n) (All-weaker (RowOf top n) (λ r. Q (b ∷ r)) h (rows bytes n) (rows_are_rows n))
+
+module _ (rank : ℕ → ℕ) (top : ℕ) (ranks : Ranked rank top) (bytes : List ℕ) (low : AllByRecursion (λ b. b ≤ top) bytes) (up : InOrder rank bytes) where
   -- a row that begins with b has a lower number than every row that begins with c, of higher rank
   begins_lower : (n a b c : ℕ) → rank b < rank c → (r : List ℕ) → RowOf top n r → AllByRecursion (λ y. row_number rank a (b ∷ r) < row_number rank a y) (beginning bytes n c)
   begins_lower n a b c l r h =
-      All-map (λ y. row_number rank a (b ∷ r) < row_number rank a y) (λ s. c ∷ s) (rows bytes n)
-      (All-weaker (RowOf top n) (λ s. row_number rank a (b ∷ r) < row_number rank a (c ∷ s))
+      all_beginning top bytes low (λ y. row_number rank a (b ∷ r) < row_number rank a y) n c
       (λ s i. lower_front rank top ranks (a * base + rank b) (a * base + rank c) r s (h.0 ∙ sym i.0) h.1 (omega arith))
-      (rows bytes n) (rows_are_rows n))
 
   pub rows_in_order : (n a : ℕ) → InOrder (row_number rank a) (rows bytes n)
   unfolding rows
@@ -70,11 +72,8 @@ module _ (rank : ℕ → ℕ) (top : ℕ) (ranks : Ranked rank top) (bytes : Lis
       go ih (b ∷ bs) o = ordered_append (row_number rank a) (beginning bytes n b) (flat_map (beginning bytes n) bs)
           (ordered_map (row_number rank a) (λ r. b ∷ r) (rows bytes n) (ih (a * base + rank b)))
           (go ih bs o.1)
-          (All-map (λ x. AllByRecursion (λ y. row_number rank a x < row_number rank a y) (flat_map (beginning bytes n) bs)) (λ r. b ∷ r) (rows bytes n)
-          (All-weaker (RowOf top n) (λ r. AllByRecursion (λ y. row_number rank a (b ∷ r) < row_number rank a y) (flat_map (beginning bytes n) bs))
-          (λ r h. all_joined (λ y. row_number rank a (b ∷ r) < row_number rank a y) (beginning bytes n) bs
-          (All-weaker (λ c. rank b < rank c) (λ c. AllByRecursion (λ y. row_number rank a (b ∷ r) < row_number rank a y) (beginning bytes n c)) (λ c l. begins_lower n a b c l r h) bs o.0))
-          (rows bytes n) (rows_are_rows n)))
+          (all_beginning top bytes low (λ x. AllByRecursion (λ y. row_number rank a x < row_number rank a y) (flat_map (beginning bytes n) bs)) n b
+          (λ r h. all_joined (λ c. rank b < rank c) (λ y. row_number rank a (b ∷ r) < row_number rank a y) (beginning bytes n) (λ c l. begins_lower n a b c l r h) bs o.0))
 
 -- what holds of every row in the list holds of every row
 pub all_rows : (bytes : List ℕ) (n : ℕ) (Q : List ℕ → Type 0) → AllByRecursion Q (rows bytes n) → (ys : List ℕ) → length ys ≡ n → AllByRecursion (Has bytes) ys → Q ys

@@ -3,28 +3,23 @@
 -- No plan below the marks comes before the bound: its option postings do not precede the walk's, the held pairs added to
 -- both keep that, and the pairs that it needs besides never lower its cost. A plan that needs a free pair counts alike when
 -- the pair is held, and one that does not need it is left when the pair is shut; so the two branches together see every plan.
-use Rattle.std.proofs.Common.{◌≡◌, ℕ, ◌+◌, ◌<◌, ◌≤◌, Bool, true, false, cond, ◌||◌, eqb, List, ◌++◌, length, Some, None, sym, refl, ap, ◌∙◌, subst, ⊎_elim, arith}
-use Rattle.std.proofs.lemmas.Bool.{ne_eqb, cases_eq, cases_Bool, false≢true, or_left, or_right, or_from}
+use Rattle.std.proofs.Common.{◌≡◌, ℕ, ◌+◌, ◌<◌, ◌≤◌, Bool, true, false, ◌||◌, eqb, ◌++◌, length, Some, None, sym, ap, ◌∙◌, subst, ⊎_elim, arith}
+use Rattle.std.proofs.lemmas.Bool.{ne_eqb, cases_eq, cases_Bool, both_ways, false_from_ne_true, or_left, or_right, or_from}
+use Rattle.std.proofs.lemmas.Option.{none-some, cond_some}
 use Rattle.costs.specs.Postings.{most}
 use Rattle.costs.specs.Kinds.{Adding, Laws}
-use Rattle.theory.specs.Entries.{Entry, sum}
+use Rattle.theory.specs.Entries.{sum}
 use Rattle.theory.specs.Amounts.{Amount, value, Known, precedes}
 use Rattle.theory.specs.Searches.{with_pairs, Plans, Countable, IsClear, cost, worth, Best, ahead, at_worth, at_cost, Walk, Walked, bound, Found}
 use Rattle.theory.specs.Rules.{NothingBetter, Here, BothBranches, Rules}
 use Rattle.theory.proofs.Precedence.{known, passed_on, not_itself, turned, same_cost, pass}
 use Rattle.theory.proofs.Keeping.{not_lower_precedes}
+use Rattle.theory.proofs.Routes.{amount}
 use Rattle.theory.proofs.Pairs.{pairs_same, pairs_fit, more_pairs, pairs_on_both}
 
 -- an amount with a cost is open
 pub is_open_at : {C : Type 0} (k : Adding C) (a : Amount) (c : C) → value k a ≡ Some c → a.is_open ≡ true
-is_open_at k a c = go a.is_open
-  where
-    go : (o : Bool) → cond o (Some (sum k a.row)) None ≡ Some c → o ≡ true
-    go true e = refl
-    go false e = absurd (let w : ◌≡◌ {A = ℕ} 0 1 = cc in omega arith)
-
-abbrev amount : Bool → List Entry → Amount
-amount o r = record { is_open = o; row = r }
+is_open_at k a c e = (cond_some a.is_open (sum k a.row) c e).0
 
 module _ {X C : Type 0} {k : Adding C} {lower : C → C → Bool} (laws : Laws k lower) (s : Plans X) (ok : Countable s) where
   worth_known : (f : ℕ → Bool) (x : X) → Known k (value k (with_pairs s.pair s.pairs (s.options x) f))
@@ -63,15 +58,11 @@ module _ {X C : Type 0} {k : Adding C} {lower : C → C → Bool} (laws : Laws k
         let o = s.options w.plan in
         let opens : o.is_open ≡ true = ap (λ a. a.is_open) r.0 ∙ is_open_at k (with_pairs s.pair s.pairs w.sum held) c is in
         let over = more_pairs laws s.pair ok.no_gain o.row (ok.posts w.plan opens) (s.needs w.plan) held s.pairs (ok.room w.plan) (λ j l n. none_free j l n (r.1 j l n)) in (
-          (opens, λ j l n. not_closed (closed j) (shut j) (closed-is-shut j l) (r.1 j l n)),
+          (opens, λ j l n. false_from_ne_true (closed j) (λ e. both_ways (shut j) (r.1 j l n) (closed-is-shut j l e))),
           subst (λ a. precedes lower (value k (with_pairs s.pair s.pairs a held)) (s.number w.plan) (value k (cost s w.plan)) (s.number w.plan) ≡ false) r.0 (not_lower_precedes k lower o.is_open (s.number w.plan) (with_pairs s.pair s.pairs o held).row (cost s w.plan).row over),
         );
     known = λ _. bound_known held w walked.room;
   }
-    where
-      not_closed : (c t : Bool) → (c ≡ true → t ≡ true) → t ≡ false → c ≡ false
-      not_closed false t h e = refl
-      not_closed true t h e = absurd (false≢true (sym e ∙ h refl))
 
   worth_same : (f g : ℕ → Bool) (x : X) → ((j : ℕ) → j < s.pairs → f j || s.needs x j ≡ g j || s.needs x j) → worth s f x ≡ worth s g x
   worth_same f g x h = ap (λ r. amount (s.options x).is_open ((s.options x).row ++ r)) (pairs_same s.pair (λ j. f j || s.needs x j) (λ j. g j || s.needs x j) s.pairs h)
@@ -85,7 +76,7 @@ module _ {X C : Type 0} {k : Adding C} {lower : C → C → Bool} (laws : Laws k
         (subst (λ a. precedes lower (value k a) (s.number x) r₁.cost (s.number r₁.plan) ≡ false) (worth_same held₁ held x (λ i l. counts_alike i l x n))
         (one.least x (clear.0, λ i l m. same-shut i l ∙ clear.1 i l m))) two.kept)
         (λ n. subst (λ a. precedes lower (value k a) (s.number x) r₂.cost (s.number r₂.plan) ≡ false) (worth_same held₂ held x (λ i l. ap (λ c. c || s.needs x i) (same-held i l)))
-        (two.least x (clear.0, λ i l m. more-shut i l ∙ ⊎_elim (λ e. absurd (false≢true (sym n ∙ subst (λ h. s.needs x h ≡ true) e m))) (λ d. or_from (eqb i j) (shut i) (ne_eqb i j d) (clear.1 i l m)) (cases_eq i j))))
+        (two.least x (clear.0, λ i l m. more-shut i l ∙ ⊎_elim (λ e. absurd (both_ways (s.needs x j) n (subst (λ h. s.needs x h ≡ true) e m))) (λ d. or_from (eqb i j) (shut i) (ne_eqb i j d) (clear.1 i l m)) (cases_eq i j))))
         (cases_Bool (s.needs x j));
     real = λ h. two.real (one.real h);
     known = λ h. two.known (one.known h);
@@ -111,7 +102,7 @@ module _ {X C : Type 0} {k : Adding C} {lower : C → C → Bool} (laws : Laws k
   pub found_all : (closed : ℕ → Bool) (b r : Best X C) → b.cost ≡ None → Found k lower s closed (λ _. false) closed b r → ((x : X) → IsClear s closed x → ahead lower s (at_cost k s x) r ≡ false) × ((c : C) → r.cost ≡ Some c → IsClear s closed r.plan × (r.cost ≡ value k (cost s r.plan)))
   found_all closed b r none found =
       let kr = found.known (subst (Known k) (sym none) tt) in
-      let real = found.real (λ c e. absurd (let w : ◌≡◌ {A = ℕ} 0 1 = cc in omega arith)) in (
+      let real = found.real (λ c e. absurd (none-some c (sym none ∙ e))) in (
         found.least,
         λ c e. let h = real c e in
             (h.0, same_cost laws r.cost (value k (cost s r.plan)) (s.number r.plan) kr (worth_known _ r.plan) h.1 (found.least r.plan h.0)),

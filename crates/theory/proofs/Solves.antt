@@ -1,8 +1,7 @@
 -- Whatever a search of all plans finds is what the definition through every row of bytes answers.
-use Rattle.std.proofs.Common.{◌≡◌, ℕ, Bool, true, false, cond, List, Some, None, Option, sym, refl, ap, ◌∙◌, subst, subst₂}
-use Rattle.std.proofs.lemmas.Bool.{false≢true}
+use Rattle.std.proofs.Common.{◌≡◌, ℕ, Bool, false, List, Some, None, Option, sym, refl, ap, ◌∙◌, subst}
+use Rattle.std.proofs.lemmas.Bool.{both_ways}
 use Rattle.costs.specs.Kinds.{Adding, Laws}
-use Rattle.theory.specs.Entries.{sum}
 use Rattle.theory.specs.Amounts.{value, precedes}
 use Rattle.theory.specs.Tables.{top_byte}
 use Rattle.theory.specs.Searches.{Best, IsClear, cost, Found}
@@ -10,6 +9,7 @@ use Rattle.theory.specs.ReadingOrder.{row_number, ByteOrder}
 use Rattle.theory.specs.Answers.{IsPlan, costs_of, solved}
 use Rattle.theory.specs.Laws.{Solves}
 use Rattle.theory.specs.Problems.{Problem, Proper, plans, costs, no_plan, plan_if, plan_of}
+use Rattle.theory.proofs.Precedence.{open_is_before_none}
 use Rattle.theory.proofs.Searches.{found_all}
 use Rattle.theory.proofs.Answers.{first_is_answer, Decides, same_decision, solved_decides}
 use Rattle.theory.proofs.Problems.{clear_is_plan, plan_is_clear, plan_costs, countable, bytewise}
@@ -39,9 +39,8 @@ module _ {C : Type 0} {k : Adding C} {lower : C → C → Bool} (laws : Laws k l
       where
         go : (o : Option C) → r.cost ≡ o → Settles (plan_if o r.plan)
         go None e = λ x p.
-            let h = none_before x p in
-            let t : true ≡ false = subst₂ (λ m v. precedes lower (cond m (Some (sum k (costs y x).row)) None) (row_number y.table.rank 0 x) v (row_number y.table.rank 0 r.plan) ≡ false) p e h in
-            absurd (false≢true (sym t))
+            let h = subst (λ v. precedes lower (value k (costs y x)) (row_number y.table.rank 0 x) v (row_number y.table.rank 0 r.plan) ≡ false) e (none_before x p) in
+            absurd (both_ways _ h (open_is_before_none k lower (costs y x) (row_number y.table.rank 0 x) (row_number y.table.rank 0 r.plan) p))
         go (Some c) e =
             let f = found_cost c e in
             first_is_answer laws y.table.rank (top_byte y.table) ok.sound.ranks bytes order y.table.size (costs y) (bytewise y ok) r.plan f.0

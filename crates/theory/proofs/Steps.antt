@@ -6,7 +6,7 @@
 -- notes from the first component to the last.
 use Rattle.std.proofs.Common.{◌≡◌, ℕ, zero, suc, ◌+◌, ◌-◌, ◌*◌, ◌<◌, ◌≤◌, Bool, eqb, length, sym, refl, ap, ◌∙◌, subst, ⊎_elim, arith, length-append}
 use mathlib.Core.Path.{fun_ext}
-use Rattle.std.proofs.lemmas.Bool.{eq-eqb, ne_eqb, cases_eq, cond-true, cond-false}
+use Rattle.std.proofs.lemmas.Bool.{ne_eqb, cases_eq, cond-false}
 use Rattle.costs.specs.Kinds.{Adding, Laws}
 use Rattle.theory.specs.Amounts.{Amount, nothing, both, value}
 use Rattle.theory.specs.Options.{Options, posted}
@@ -18,7 +18,7 @@ use Rattle.theory.proofs.Bests.{better_either}
 use Rattle.theory.proofs.Inserted.{onto_same, onto_other}
 use Rattle.theory.proofs.Totals.{put_same, put_other, total_is_spent, sums_bounded_at}
 use Rattle.theory.proofs.Walks.{plan_step}
-use Rattle.theory.proofs.Tables.{regular}
+use Rattle.theory.proofs.Tables.{enter_top, enter_under, regular}
 use Rattle.theory.proofs.Walked.{one_more, sums_bounded, notes_small}
 
 module _ {C : Type 0} (k : Adding C) (lower : C → C → Bool) where
@@ -43,6 +43,10 @@ module _ {C : Type 0} (k : Adding C) (lower : C → C → Bool) where
       (omega (arith, posted_length (o.discard e)))
       (omega (arith, posted_length (o.repair e), length-append (posted (o.repair e)).row (under e).row, h e)))
       (omega (arith, posted_length (o.move e), length-append (posted (o.move e)).row on.sum.row))
+
+  -- what is chosen at a place is the best way on from there
+  chosen_at_place : (g : Table) (i : ℕ) (under : ℕ → Amount) (e : ℕ) → 0 < e → chosen k lower g i under e ≡ best_from k lower g i under e
+  chosen_at_place g i under e l = cond-false (eqb e 0) _ (best_from k lower g i under e) (ne_eqb e 0 (λ z. omega arith))
 
   module _ (g : Table) (ok : Sound g) where
     -- ---- the sums
@@ -73,20 +77,20 @@ module _ {C : Type 0} (k : Adding C) (lower : C → C → Bool) where
     pub taken_under : (i e : ℕ) (ex : Sums) → (g.parent i ≡ 0 → ⊥) → 0 < e → take_one k lower g i ex (g.parent i) e ≡ both (ex (g.parent i) e) (best_from k lower g i (ex i) e).sum
     taken_under i e ex h l =
         taken_at_parent i e ex
-        ∙ ap (λ s. both (ex (g.parent i) e) (chosen k lower g i (ex i) s).sum) (cond-false (eqb (g.parent i) 0) (g.first i) e (ne_eqb (g.parent i) 0 h))
-        ∙ ap (λ c. both (ex (g.parent i) e) c.sum) (cond-false (eqb e 0) _ (best_from k lower g i (ex i) e) (ne_eqb e 0 (λ z. omega arith)))
+        ∙ ap (λ s. both (ex (g.parent i) e) (chosen k lower g i (ex i) s).sum) (enter_under g i e h)
+        ∙ ap (λ c. both (ex (g.parent i) e) c.sum) (chosen_at_place g i (ex i) e l)
 
     -- for a top component, the best way on from its start is added to the sum of the whole
     pub taken_top : (i : ℕ) (ex : Sums) → g.parent i ≡ 0 → 0 < g.first i → take_one k lower g i ex 0 0 ≡ both (ex 0 0) (best_from k lower g i (ex i) (g.first i)).sum
     taken_top i ex h l =
         subst (λ p. take_one k lower g i ex p 0 ≡ both (ex p 0) (chosen k lower g i (ex i) (enter g i 0)).sum) h (taken_at_parent i 0 ex)
-        ∙ ap (λ s. both (ex 0 0) (chosen k lower g i (ex i) s).sum) (cond-true (eqb (g.parent i) 0) (g.first i) 0 (eq-eqb (g.parent i) 0 h))
-        ∙ ap (λ c. both (ex 0 0) c.sum) (cond-false (eqb (g.first i) 0) _ (best_from k lower g i (ex i) (g.first i)) (ne_eqb (g.first i) 0 (λ z. omega arith)))
+        ∙ ap (λ s. both (ex 0 0) (chosen k lower g i (ex i) s).sum) (enter_top g i 0 h)
+        ∙ ap (λ c. both (ex 0 0) c.sum) (chosen_at_place g i (ex i) (g.first i) l)
 
     -- ---- the notes
     pub note_at_place : (i e : ℕ) → 0 < e → notes k lower g i e ≡ (best_from k lower g i (sums_at k lower g i i) e).byte
     unfolding notes
-    note_at_place i e l = ap (λ c. c.byte) (cond-false (eqb e 0) _ (best_from k lower g i (sums_at k lower g i i) e) (ne_eqb e 0 (λ z. omega arith)))
+    note_at_place i e l = ap (λ c. c.byte) (chosen_at_place g i (sums_at k lower g i i) e l)
 
     -- a component that is not reached has byte 0
     pub note_unreached : (i : ℕ) → notes k lower g i 0 ≡ 0

@@ -1,11 +1,11 @@
 -- A sound table is a regular breakdown of few postings.
 use Rattle.std.proofs.Common.{◌≡◌, ℕ, zero, suc, ◌*◌, ◌<◌, ◌≤◌, Bool, true, false, cond, eqb, ◌⊎◌, length, sym, refl, ◌∙◌, subst, inl, inr, ⊎_elim, arith, length-append}
-use Rattle.std.proofs.lemmas.Bool.{eq-eqb, eqb-true, cases_eq, false≢true, and_parts, cond-true, cond_both}
+use Rattle.std.proofs.lemmas.Bool.{eq-eqb, ne_eqb, eqb-true, eqb-false, cases_eq, false≢true, and_parts, cond-true, cond-false, cond_both}
 use Rattle.theory.specs.Amounts.{Amount, nothing, closed}
 use Rattle.theory.specs.Places.{longest}
 use Rattle.theory.specs.Options.{route}
 use Rattle.theory.specs.Breakdowns.{spent, start}
-use Rattle.theory.specs.Tables.{Table, top_byte, Sound, own, breakdown, most_options}
+use Rattle.theory.specs.Tables.{Table, top_byte, Sound, own, enter, breakdown, most_options}
 use Rattle.theory.proofs.Routes.{route_length, route_open, route_byte}
 use Rattle.theory.proofs.Totals.{Regular, Bounded, total_is_spent}
 
@@ -13,9 +13,23 @@ use Rattle.theory.proofs.Totals.{Regular, Bounded, total_is_spent}
 pub unreached : (b : ℕ) → (cond (eqb b 0) nothing closed).is_open ≡ true → b ≡ 0
 unreached b = cond_both (eqb b 0) nothing closed (λ a. a.is_open ≡ true → b ≡ 0) (λ e _. eqb-true b 0 e) (λ _ e. absurd (false≢true e))
 
+module _ (g : Table) where
+  -- a top component starts at its first place, any other where its parent is repaired
+  pub enter_top : (i e : ℕ) → g.parent i ≡ 0 → enter g i e ≡ g.first i
+  enter_top i e h = cond-true (eqb (g.parent i) 0) (g.first i) e (eq-eqb (g.parent i) 0 h)
+
+  pub enter_under : (i e : ℕ) → (g.parent i ≡ 0 → ⊥) → enter g i e ≡ e
+  enter_under i e h = cond-false (eqb (g.parent i) 0) (g.first i) e (ne_eqb (g.parent i) 0 h)
+
+  -- what holds of a component that is not reached, and of one that goes its route, holds of what it posts
+  own_either :
+      (i s b : ℕ) (Q : Amount → Type 0) → (s ≡ 0 → Q (cond (eqb b 0) nothing closed)) → (0 < s → Q (route g.places.up (g.options i) (g.places.above s) s b))
+      → Q (own g i s b)
+  own_either i s b Q h k = cond_both (eqb s 0) _ _ Q (λ e. h (eqb-true s 0 e)) (λ e. let n = eqb-false s 0 e in k (omega arith))
+
 module _ (g : Table) (ok : Sound g) where
   own_length : (i s b : ℕ) → length (own g i s b).row ≤ longest
-  own_length i s b = cond_both (eqb s 0) (cond (eqb b 0) nothing closed) (route g.places.up (g.options i) (g.places.above s) s b) (λ a. length a.row ≤ longest)
+  own_length i s b = own_either g i s b (λ a. length a.row ≤ longest)
       (λ _. cond_both (eqb b 0) nothing closed (λ a. length a.row ≤ longest) (λ _. omega arith) (λ _. omega arith))
       (λ _. omega (arith, route_length g.places.up (g.options i) (g.places.above s) s b, ok.rising.short s))
 
@@ -47,7 +61,7 @@ module _ (g : Table) (ok : Sound g) where
 
   -- ---- bytes that are open
   own_byte : (i s b : ℕ) → (own g i s b).is_open ≡ true → b ≤ top_byte g
-  own_byte i s b = cond_both (eqb s 0) (cond (eqb b 0) nothing closed) (route g.places.up (g.options i) (g.places.above s) s b) (λ a. a.is_open ≡ true → b ≤ top_byte g)
+  own_byte i s b = own_either g i s b (λ a. a.is_open ≡ true → b ≤ top_byte g)
       (λ _ h. omega (arith, unreached b h))
       (λ _. route_byte g.places ok.rising (g.options i) (g.places.above s) s b refl)
 
@@ -61,8 +75,8 @@ module _ (g : Table) (ok : Sound g) where
       (cases_eq i n)
 
   own_some : (i s b : ℕ) → 0 < s → (own g i s b).is_open ≡ true → 0 < length (own g i s b).row
-  own_some i s b h = cond_both (eqb s 0) (cond (eqb b 0) nothing closed) (route g.places.up (g.options i) (g.places.above s) s b) (λ a. a.is_open ≡ true → 0 < length a.row)
-      (λ e _. absurd (omega (arith, eqb-true s 0 e)))
+  own_some i s b h = own_either g i s b (λ a. a.is_open ≡ true → 0 < length a.row)
+      (λ e _. absurd (omega arith))
       (λ _. route_open g.places.up (g.options i) (g.places.above s) s b)
 
   -- the first component is a top component, so bytes that are open post something
@@ -70,6 +84,6 @@ module _ (g : Table) (ok : Sound g) where
   open_posts a zero l e = absurd (omega arith)
   open_posts a (suc zero) l e =
       let whole : g.parent 1 ≡ 0 = omega (arith, ok.after_parent 0) in
-      let e1 : start (breakdown g) a 1 ≡ g.first 1 = cond-true (eqb (g.parent 1) 0) _ _ (eq-eqb (g.parent 1) 0 whole) in
+      let e1 : start (breakdown g) a 1 ≡ g.first 1 = enter_top g 1 _ whole in
       own_some 1 (start (breakdown g) a 1) (a 1) (omega (arith, ok.starts 0 whole)) e
   open_posts a (suc (suc n)) l e = omega (arith, length-append (spent (breakdown g) (suc n) a).row (own g (suc (suc n)) (start (breakdown g) a (suc (suc n))) (a (suc (suc n)))).row, open_posts a (suc n) (omega arith) (and_parts _ _ e).0)

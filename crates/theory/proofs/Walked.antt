@@ -1,7 +1,7 @@
 -- The walk of a table: its notes are right, so no row of bytes precedes its plan.
 use Rattle.std.proofs.Common.{◌≡◌, ℕ, zero, suc, ◌+◌, ◌-◌, ◌*◌, ◌<◌, ◌≤◌, Bool, true, false, cond, eqb, length, sym, refl, ap, ◌∙◌, subst, subst₂, ⊎_elim, arith}
 use mathlib.Core.Path.{fun_ext}
-use Rattle.std.proofs.lemmas.Bool.{ne_eqb, eqb-true, eqb-false, cases_eq, cond-false, cond_both}
+use Rattle.std.proofs.lemmas.Bool.{eqb-true, eqb-false, cases_eq, cond_both}
 use Rattle.costs.specs.Postings.{most}
 use Rattle.costs.specs.Kinds.{Adding, Laws}
 use Rattle.theory.specs.Amounts.{Amount, nothing, closed, both, value, precedes}
@@ -16,7 +16,7 @@ use Rattle.theory.proofs.Bests.{best_right, best_first}
 use Rattle.theory.proofs.Inserted.{onto_same, onto_other}
 use Rattle.theory.proofs.Totals.{Bytes, Bounded, total_is_spent, sums_bounded_at}
 use Rattle.theory.proofs.Walks.{still_bounded, plan_first, plan_bytes, plan_whole}
-use Rattle.theory.proofs.Tables.{regular, bounded}
+use Rattle.theory.proofs.Tables.{enter_under, regular, bounded}
 
 module _ {C : Type 0} (k : Adding C) (lower : C → C → Bool) (g : Table) (ok : Sound g) where
   -- what component i posts at its chosen byte is the choice's amount
@@ -45,8 +45,7 @@ module _ {C : Type 0} (k : Adding C) (lower : C → C → Bool) (g : Table) (ok 
       let ex = sums k lower g d in
       let add : ℕ → Amount = λ e. (chosen k lower g x (ex x) (enter g x e)).sum in
       ⊎_elim
-      (λ e. let under : eqb (g.parent x) 0 ≡ false = ne_eqb (g.parent x) 0 (λ z. omega arith) in
-      let zero-place : enter g x 0 ≡ 0 = cond-false (eqb (g.parent x) 0) _ _ under in
+      (λ e. let zero-place : enter g x 0 ≡ 0 = enter_under g x 0 (λ z. omega arith) in
       let adds-nothing : add 0 ≡ nothing = ap (λ s. (chosen k lower g x (ex x) s).sum) zero-place in
       subst (λ p. onto ex p add i 0 ≡ nothing) e (onto_same ex i 0 add ∙ ap (both (ex i 0)) adds-nothing ∙ both_nothing (ex i 0) ∙ bare d i h))
       (λ n. onto_other ex (g.parent x) i 0 add n ∙ bare d i h)
