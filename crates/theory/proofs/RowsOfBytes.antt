@@ -2,6 +2,7 @@
 use Rattle.std.proofs.Common.{◌≡◌, ℕ, zero, suc, ◌+◌, ◌*◌, ◌<◌, ◌≤◌, ◌||◌, List, [], ◌∷◌, ◌++◌, length, get_or, take, sym, refl, ap, ◌∙◌, ap₂, ⊎_elim, add-one, arith, length-append}
 use Rattle.std.specs.List.{AllByRecursion}
 use Rattle.std.proofs.lemmas.List.{take_more, take_all, get_or_push, get_or_append_left, get_or_past}
+use Rattle.std.proofs.lemmas.List.Sums.{fold-append}
 use Rattle.std.proofs.ByRecursion.{All-from_get_or}
 use Rattle.std.proofs.lemmas.Bool.{cases_eq, cases_lt}
 use Rattle.theory.specs.Amounts.{nothing}
@@ -40,13 +41,9 @@ pub row_back : (r : List ℕ) (n : ℕ) → length r ≡ n → row_of n (bytes_o
 row_back r n e = row_take r n (omega arith) ∙ take_all n r (omega arith)
 
 -- ---- their number
-number_push : (rank : ℕ → ℕ) (c : ℕ) (xs : List ℕ) (x : ℕ) → row_number rank c (xs ++ x ∷ []) ≡ row_number rank c xs * base + rank x
-number_push rank c [] x = refl
-number_push rank c (y ∷ xs) x = number_push rank (c * base + rank y) xs x
-
 pub number_of_row : (rank : ℕ → ℕ) (a : ℕ → ℕ) (n : ℕ) → row_number rank 0 (row_of n a) ≡ number rank n a
 number_of_row rank a zero = refl
-number_of_row rank a (suc n) = number_push rank 0 (row_of n a) (a (suc n)) ∙ ap (λ x. x * base + rank (a (suc n))) (number_of_row rank a n)
+number_of_row rank a (suc n) = fold-append _ 0 (row_of n a) (a (suc n) ∷ []) ∙ ap (λ x. x * base + rank (a (suc n))) (number_of_row rank a n)
 
 pub number_of_bytes : (rank : ℕ → ℕ) (r : List ℕ) (n : ℕ) → length r ≡ n → row_number rank 0 r ≡ number rank n (bytes_of r)
 number_of_bytes rank r n e = ap (row_number rank 0) (sym (row_back r n e)) ∙ number_of_row rank (bytes_of r) n

@@ -1,5 +1,6 @@
 -- What the laws of a cost kind say of the sums of rows: joining, turning and comparing them.
 use Rattle.std.proofs.Common.{◌≡◌, ℕ, suc, ◌+◌, ◌<◌, ◌≤◌, Bool, true, List, [], ◌∷◌, ◌++◌, length, sym, refl, ap, ◌∙◌, subst, append_assoc, append-nil, arith, length-append}
+use Rattle.std.proofs.lemmas.List.Sums.{fold-append}
 use Rattle.costs.specs.Postings.{most}
 use Rattle.costs.specs.Kinds.{Adding, SumOf, one, join, Laws, Cost}
 use Rattle.theory.specs.Entries.{Entry, post, adds, blank, sum}
@@ -8,10 +9,6 @@ module _ {C : Type 0} (k : Adding C) where
   -- one entry is a sum of one posting
   pub one_of : (p : Entry) → SumOf k 1 (post k p)
   one_of p = one p.posting p.within
-
-  adds_append : (c : C) (ps qs : List Entry) → adds k c (ps ++ qs) ≡ adds k (adds k c ps) qs
-  adds_append c [] qs = refl
-  adds_append c (p ∷ ps) qs = adds_append (k.plus c (post k p)) ps qs
 
   adds_of : (n : ℕ) (c : C) (ps : List Entry) → SumOf k n c → SumOf k (n + length ps) (adds k c ps)
   adds_of n c [] s = let e : n ≡ n + 0 = omega arith in subst (λ m. SumOf k m c) e s
@@ -33,7 +30,7 @@ module _ {C : Type 0} (k : Adding C) where
 
   pub sum_push : (ps : List Entry) (p : Entry) → 0 < length ps → sum k (ps ++ p ∷ []) ≡ k.plus (sum k ps) (post k p)
   sum_push [] p h = absurd (omega arith)
-  sum_push (q ∷ ps) p h = adds_append (post k q) ps (p ∷ [])
+  sum_push (q ∷ ps) p h = fold-append _ (post k q) ps (p ∷ [])
 
 module _ {C : Type 0} {k : Adding C} {lower : C → C → Bool} (laws : Laws k lower) where
   adds_plus : (m n : ℕ) (c d : C) (ps : List Entry) → SumOf k m c → SumOf k n d → m + n + length ps ≤ most → adds k (k.plus c d) ps ≡ k.plus c (adds k d ps)
@@ -47,7 +44,7 @@ module _ {C : Type 0} {k : Adding C} {lower : C → C → Bool} (laws : Laws k l
   sum_append [] vs h i l = absurd (omega arith)
   sum_append (a ∷ us) [] h i l = absurd (omega arith)
   sum_append (a ∷ us) (b ∷ vs) h i l =
-      adds_append k (post k a) us (b ∷ vs)
+      fold-append _ (post k a) us (b ∷ vs)
       ∙ adds_plus (1 + length us) 1 (adds k (post k a) us) (post k b) vs (adds_of k 1 (post k a) us (one_of k a)) (one_of k b) (omega arith)
 
   -- either row may stand first
@@ -63,7 +60,7 @@ module _ {C : Type 0} {k : Adding C} {lower : C → C → Bool} (laws : Laws k l
   sum_on [] [] ws l e = refl
   sum_on [] (b ∷ vs) ws l e = absurd (omega arith)
   sum_on (a ∷ us) [] ws l e = absurd (omega arith)
-  sum_on (a ∷ us) (b ∷ vs) ws l e = adds_append k (post k a) us ws ∙ ap (λ x. adds k x ws) e ∙ sym (adds_append k (post k b) vs ws)
+  sum_on (a ∷ us) (b ∷ vs) ws l e = fold-append _ (post k a) us ws ∙ ap (λ x. adds k x ws) e ∙ sym (fold-append _ (post k b) vs ws)
 
   -- what stands in the middle may stand at the end
   pub sum_swap : (us vs ws : List Entry) → length us + (length vs + length ws) ≤ most → sum k (us ++ (vs ++ ws)) ≡ sum k ((us ++ ws) ++ vs)
