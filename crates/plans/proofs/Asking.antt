@@ -1,7 +1,7 @@
 -- What a plan uses is asked about, and what is asked about and passes the test is used.
-use Rattle.std.proofs.Common.{◌≡◌, ℕ, ◌*◌, ◌/◌, ◌%◌, ◌^◌, ◌<◌, ◌≤◌, true, ltb, List, sym, ap, ◌∙◌, subst, inl, inr, arith}
-use Rattle.std.proofs.lemmas.Bool.{cases_eq, cases_lt, ltb-true, eqb-true, and_parts}
-use Rattle.std.proofs.lemmas.Nat.{pow_below, pow_pos, div_below}
+use Rattle.std.proofs.Common.{◌≡◌, ℕ, ◌*◌, ◌/◌, ◌%◌, ◌^◌, ◌<◌, ◌≤◌, true, ltb, List, sym, ap, ◌∙◌, subst, inl, inr, arith, pow_mono}
+use Rattle.std.proofs.lemmas.Bool.{cases_lt, ltb-true, eqb-true, and_parts}
+use Rattle.std.proofs.lemmas.Nat.{pow_pos, div_below}
 use Rattle.model.specs.declared.component.Needs.{Needs}
 use Rattle.model.specs.declared.question.Question.{Question}
 use Rattle.model.specs.declared.question.Question.TheVariants.{OfOption, OfResource}
@@ -38,15 +38,12 @@ pub used_is_asked :
     → Among (OfOption i e o) (component_questions s.echelons i)
 used_is_asked {s} {plan} {i} {e} {o} fit u = offered_is_asked s.echelons i e o (used_is_offered fit u)
 
-power_rises : (q r : ℕ) → q ≤ r → 2 ^ q ≤ 2 ^ r
-power_rises q r l = elim (cases_eq q r) [ inl e ↦ omega (arith, ap (λ j. 2 ^ j) e) | inr d ↦ omega (arith, pow_below q r (omega arith)) ]
-
 -- a mask below 2 ^ q has no bit from q on
 bit_below : (m q r : ℕ) → m < 2 ^ q → m / 2 ^ r % 2 ≡ 1 → r < q
 bit_below m q r l h =
     elim (cases_lt r q) [
       | inl k ↦ k
-      | inr k ↦ let rises = power_rises q r k in absurd (omega (arith, div_below m (2 ^ r) 1 (pow_pos r) (omega arith)))
+      | inr k ↦ let rises = pow_mono k in absurd (omega (arith, div_below m (2 ^ r) 1 (pow_pos r) (omega arith)))
     ]
 
 -- needs that name only resources below q have such masks

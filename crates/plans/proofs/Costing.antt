@@ -1,6 +1,6 @@
 -- A plan of at least one component has a cost, since it posts something.
-use Rattle.std.proofs.Common.{◌≡◌, ℕ, ◌+◌, ◌*◌, ◌≤◌, true, ◌⊎◌, List, [], ◌∷◌, Some, None, Option, refl, ap, ◌∙◌, inl, inr, arith}
-use Rattle.std.proofs.lemmas.Bool.{cases_eq, ltb-true, false≢true}
+use Rattle.std.proofs.Common.{◌≡◌, ℕ, ◌≤◌, true, List, [], ◌∷◌, Some, None, Option, refl, ap, ◌∙◌, inl, inr, arith}
+use Rattle.std.proofs.lemmas.Bool.{ltb-true, false≢true}
 use Rattle.costs.specs.declared.posting.Posting.{Posting}
 use Rattle.costs.specs.Kinds.{Adding}
 use Rattle.model.specs.declared.answer.Answer.{Answer}
@@ -18,6 +18,7 @@ use Rattle.plans.specs.Starts.{byte, final, parent, Starts, top}
 use Rattle.plans.specs.Uses.{Uses, discards, repairs}
 use Rattle.plans.specs.Plans.{IsPlan, Costs}
 use Rattle.plans.specs.Laws.{Among, here, later}
+use Rattle.plans.proofs.Reading.{odd_or_even}
 use Rattle.plans.proofs.PostedOnce.{used_is_posted}
 
 -- what is open is posted
@@ -54,14 +55,10 @@ no_parent_at_first : (o : Option ℕ) → is_entered 0 o ≡ true → o ≡ None
 no_parent_at_first None h = refl
 no_parent_at_first (Some p) h = absurd (omega (arith, ltb-true p 0 h))
 
--- a byte is 2e - 1 or 2e for the final echelon e that it names
-one_or_other : (b : ℕ) → (b + 1 ≡ 2 * final b) ⊎ (b ≡ 2 * final b)
-one_or_other b = elim (cases_eq (b + 1) (2 * final b)) [ inl e ↦ inl e | inr d ↦ inr (omega arith) ]
-
 -- a reached component is discarded or repaired
 uses_something : {s : Model} {plan : List ℕ} {i a : ℕ} → Starts s plan i a → (e : ℕ) × (o : RepairOption) × Uses s plan i e o
 uses_something {s} {plan} {i} {a} r =
-    elim (one_or_other (byte plan i)) [
+    elim (odd_or_even (byte plan i)) [
       | inl h ↦ (final (byte plan i), Discard, discards i a _ r h)
       | inr h ↦ (final (byte plan i), Repair, repairs i a _ r h)
     ]

@@ -1,5 +1,6 @@
 -- A plan has at most 256 postings: at each echelon a component uses at most one option.
 use Rattle.std.proofs.Common.{◌≡◌, ℕ, zero, suc, ◌+◌, ◌*◌, ◌≤◌, Bool, true, false, cond, ltb, List, [], ◌∷◌, ◌++◌, length, Some, None, Option, refl, ap, ◌∙◌, suc-mul, arith, length-append}
+use Rattle.std.proofs.lemmas.List.Elements.{filter-append}
 use Rattle.std.proofs.lemmas.Bool.{true≢false}
 use Rattle.std.proofs.lemmas.Bool.Decides.{nat_tests}
 use Rattle.costs.specs.declared.posting.Posting.{Posting}
@@ -15,7 +16,6 @@ use Rattle.plans.specs.Starts.{byte, start}
 use Rattle.plans.specs.Uses.{uses_at, uses}
 use Rattle.plans.specs.Plans.{used_questions}
 use Rattle.plans.specs.Laws.{PostingsFit}
-use Rattle.plans.proofs.Joined.{those_append}
 use Rattle.plans.proofs.Fitting.{postings_within}
 
 -- how many of a list pass
@@ -23,7 +23,7 @@ abbrev passing : {A : Type 0} → (A → Bool) → List A → ℕ
 passing f xs = length (those f xs)
 
 passing_append : {A : Type 0} (f : A → Bool) (xs ys : List A) → passing f (xs ++ ys) ≡ passing f xs + passing f ys
-passing_append f xs ys = ap length (those_append f xs ys) ∙ length-append (those f xs) (those f ys)
+passing_append f xs ys = ap length (filter-append f xs ys) ∙ length-append (those f xs) (those f ys)
 
 -- where at most m of each part pass, at most n * m of n parts
 passing_upto : {A : Type 0} (f : A → Bool) (g : ℕ → List A) (m : ℕ) → ((i : ℕ) → passing f (g i) ≤ m) → (n : ℕ) → passing f (upto g n) ≤ n * m

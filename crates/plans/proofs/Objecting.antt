@@ -1,7 +1,8 @@
 -- What it says of a component that it meets no objection.
-use Rattle.std.proofs.Common.{◌≡◌, ℕ, ◌*◌, ◌≤◌, Bool, true, false, leb, List, None, Option, refl, arith}
+use Rattle.std.proofs.Common.{◌≡◌, ℕ, ◌*◌, ◌≤◌, Bool, true, false, leb, List, None, Option, sym, refl, arith}
 use Rattle.std.proofs.lemmas.Bool.{leb-true, le-leb, false≢true}
 use Rattle.std.proofs.lemmas.Bool.Decides.{nat_tests}
+use Rattle.std.proofs.lemmas.Option.{none-some}
 use Rattle.model.specs.declared.question.Question.{Question}
 use Rattle.model.specs.declared.refusal.Refusal.{Refusal}
 use Rattle.model.specs.declared.refusal.Refusal.TheVariants.{ByteTooLarge, ReachMismatch, BeforeStart, OptionClosed, ResourceClosed}
@@ -14,7 +15,6 @@ use Rattle.plans.specs.Uses.{uses}
 use Rattle.plans.specs.Prices.{object, agree, open_if, needs_pair, objection}
 use Rattle.plans.specs.Laws.{Among}
 use Rattle.plans.proofs.Members.{every_among, every_from}
-use Rattle.plans.proofs.Below.{some_is_not_none}
 
 -- the five questions to component i pass
 pub record Passes (s : Model) (b : Book) (plan : List ℕ) (i : ℕ) : Type 0 where
@@ -28,7 +28,7 @@ pub record Passes (s : Model) (b : Book) (plan : List ℕ) (i : ℕ) : Type 0 wh
 -- there is no objection where the test passes and the rest has none
 passed : (test : Bool) (why : Refusal) (rest : Option Refusal) → object test why rest ≡ None → (test ≡ true) × (rest ≡ None)
 passed true why rest h = (refl, h)
-passed false why rest h = absurd (some_is_not_none h)
+passed false why rest h = absurd (none-some why (sym h))
 
 unobjected : (test : Bool) (why : Refusal) (rest : Option Refusal) → test ≡ true → rest ≡ None → object test why rest ≡ None
 unobjected true why rest t h = h

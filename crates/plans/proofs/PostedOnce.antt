@@ -18,6 +18,21 @@ use Rattle.plans.proofs.Using.{used_is_entered, used_passes, needed_passes}
 use Rattle.plans.proofs.Asking.{used_is_asked, needed_is_asked, asked_is_used, asked_is_needed}
 use Rattle.plans.proofs.Accepted.{plan_fit, plan_reads}
 
+-- a pair that some component needs is used, and one that is used some component needs
+module _ (s : Model) (plan : List ℕ) (q : Question) (m : Among q (pair_questions s)) where
+  pub need_is_use : (i : ℕ) → i < count s → needs_pair s plan i q ≡ true → uses s plan q ≡ true
+  need_is_use i l u =
+      let of = asked_of_pairs s q m in
+      let is = of.1.1 in
+      ap (uses s plan) is ∙ some_passes (needs_at s plan of.0 of.1.0) (count s) i l (sym (ap (needs_pair s plan i) is) ∙ u)
+
+  pub use_is_need : uses s plan q ≡ true → (i : ℕ) × (i < count s) × (needs_pair s plan i q ≡ true)
+  use_is_need u =
+      let of = asked_of_pairs s q m in
+      let is = of.1.1 in
+      let found = which_passes (needs_at s plan of.0 of.1.0) (count s) (sym (ap (uses s plan) is) ∙ u) in
+      (found.0, found.1, ap (needs_pair s plan found.0) is ∙ found.2)
+
 module _ (s : Model) (b : Book) (plan : List ℕ) (limits : Limits s) (is_plan : IsPlan s b plan) where
   pub used_is_posted : (q : Question) → UsesIt s plan q → Among q (used_questions s plan)
   used_is_posted (OfOption i e o) u =
@@ -31,17 +46,9 @@ module _ (s : Model) (b : Book) (plan : List ℕ) (limits : Limits s) (is_plan :
       let of = upto_among (component_questions s.echelons) (count s) m in
       asked_is_used s plan of.0 (plan_reads s b plan limits is_plan of.0 of.1) q of.2 u
 
-  -- a pair that is used is needed by some component
-  needed_by_some : (q : Question) → uses s plan q ≡ true → Among q (pair_questions s) → (i : ℕ) × (i < count s) × (needs_pair s plan i q ≡ true)
-  needed_by_some q u m =
-      let of = asked_of_pairs s q m in
-      let is = of.1.1 in
-      let found = which_passes (needs_at s plan of.0 of.1.0) (count s) (ap (uses s plan) (sym is) ∙ u) in
-      (found.0, found.1, ap (needs_pair s plan found.0) is ∙ found.2)
-
   pair_is_used : (q : Question) → uses s plan q ≡ true → Among q (pair_questions s) → UsesIt s plan q
   pair_is_used q u m =
-      let by = needed_by_some q u m in
+      let by = use_is_need s plan q m u in
       asked_is_needed s plan by.0 (plan_reads s b plan limits is_plan by.0 by.1) q m by.2
 
   posted_is_used : (q : Question) → Among q (used_questions s plan) → UsesIt s plan q

@@ -1,5 +1,5 @@
 -- Pricing accepts exactly the plans.
-use Rattle.std.proofs.Common.{◌≡◌, ℕ, ◌≤◌, leb, List, length, take, Some, None, Ok, Err, Option, Result, sym, refl, ap, ◌∙◌, arith}
+use Rattle.std.proofs.Common.{◌≡◌, ℕ, ◌≤◌, leb, List, length, take, Some, None, Ok, Option, Result, sym, refl, ap, ◌∙◌}
 use Rattle.std.proofs.lemmas.List.{length-take-le}
 use Rattle.std.proofs.lemmas.Bool.{le-leb, cond-true}
 use Rattle.costs.specs.Kinds.{Adding}
@@ -16,16 +16,13 @@ use Rattle.plans.proofs.Objecting.{passes, no_objection}
 use Rattle.plans.proofs.Accepted.{passed_is_plan, plan_passes}
 use Rattle.plans.proofs.Costing.{plan_has_cost}
 
-refusal_is_no_cost : {C : Type 0} {why : Refusal} {c : C} → Err why ≡ Ok c → ⊥
-refusal_is_no_cost h = let never : ◌≡◌ {A = ℕ} 0 1 = cc in omega arith
-
 -- an answer is a cost where there is no refusal before it
 not_refused : {C : Type 0} (why : Option Refusal) (rest : Result C Refusal) (c : C) → or_refuse why rest ≡ Ok c → (why ≡ None) × (rest ≡ Ok c)
 not_refused None rest c h = (refl, h)
-not_refused (Some w) rest c h = absurd (refusal_is_no_cost h)
+not_refused (Some w) rest c h = absurd cc
 
 has_cost : {C : Type 0} (sum : Option C) (c : C) → cost_or_refuse sum ≡ Ok c → sum ≡ Some c
-has_cost None c h = absurd (refusal_is_no_cost h)
+has_cost None c h = cc
 has_cost (Some d) c h = cc
 
 module _ {C : Type 0} (k : Adding C) (s : Model) (b : Book) where

@@ -1,11 +1,11 @@
 -- The start of a component is read off its parent's byte.
-use Rattle.std.proofs.Common.{◌≡◌, ℕ, ◌*◌, ◌<◌, ◌≤◌, List, Some, None, Option, sym, refl, ap, ◌∙◌, arith}
-use Rattle.std.proofs.lemmas.Bool.{ltb-true}
+use Rattle.std.proofs.Common.{◌≡◌, ℕ, ◌*◌, ◌<◌, ◌≤◌, ◌+◌, ◌⊎◌, List, Some, None, Option, sym, refl, ap, ◌∙◌, inl, inr, arith}
+use Rattle.std.proofs.lemmas.Bool.{cases_eq, ltb-true}
 use Rattle.std.proofs.lemmas.Bool.Decides.{nat_tests}
 use Rattle.model.specs.Components.{is_entered}
 use Rattle.model.specs.Studies.{Model, Limits}
 use Rattle.plans.specs.Questions.{count}
-use Rattle.plans.specs.Starts.{byte, parent, Starts, top, under, repaired_at, start_under, start}
+use Rattle.plans.specs.Starts.{byte, final, parent, Starts, top, under, repaired_at, start_under, start}
 use Rattle.plans.specs.Laws.{ReadsStart}
 
 -- twice e is a repair at e
@@ -15,6 +15,10 @@ repaired_twice b e h = grind (arith, nat_tests)
 -- and an echelon that is read is half of the byte
 twice_repaired : (b : ℕ) → 1 ≤ repaired_at b → b ≡ 2 * repaired_at b
 twice_repaired b h = grind (arith, nat_tests)
+
+-- a byte is odd or even: it discards or repairs at its final echelon
+pub odd_or_even : (b : ℕ) → (b + 1 ≡ 2 * final b) ⊎ (b ≡ 2 * final b)
+odd_or_even b = elim (cases_eq b (2 * final b)) [ inl h ↦ inr h | inr h ↦ inl (omega arith) ]
 
 -- a component that starts is one of the study
 pub started_is_entered : {s : Model} {plan : List ℕ} {i a : ℕ} → Starts s plan i a → i < count s

@@ -12,7 +12,8 @@ use Rattle.plans.specs.Uses.{Uses, discards, repairs}
 use Rattle.plans.specs.Plans.{IsPlan}
 use Rattle.selections.specs.Selections.{Selection}
 use Rattle.selections.specs.Laws.{Describes}
-use Rattle.selections.proofs.Telling.{used_tells, odd_or_even}
+use Rattle.plans.proofs.Reading.{odd_or_even}
+use Rattle.selections.proofs.Telling.{used_tells}
 
 -- a byte of the one that is not 0 is the other's too, since both use the same option at the final echelon
 same_where_decided :

@@ -10,7 +10,8 @@ use Rattle.plans.specs.Uses.{Uses, discards, repairs, moves}
 use Rattle.plans.specs.Plans.{IsPlan}
 use Rattle.selections.specs.Selections.{Selection, Selected, ExactlyOne, IsUnder, AskedFor, at_the_top, moved, out_of, Consistent}
 use Rattle.selections.specs.Laws.{Describes}
-use Rattle.selections.proofs.Telling.{used_tells, tells_one, odd_or_even}
+use Rattle.plans.proofs.Reading.{odd_or_even}
+use Rattle.selections.proofs.Telling.{used_tells, tells_one}
 
 -- the option that is used at an echelon from the start to the final one
 used_at :

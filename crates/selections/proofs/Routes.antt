@@ -2,12 +2,12 @@
 -- one where it is discarded or repaired, and nothing else.
 use Rattle.std.proofs.Common.{◌≡◌, ℕ, zero, suc, ◌+◌, ◌-◌, ◌<◌, ◌≤◌, ◌⊎◌, sym, refl, ap, ◌∙◌, subst, inl, inr, arith}
 use Rattle.std.proofs.lemmas.Bool.{cases_eq, cases_lt}
+use Rattle.std.proofs.lemmas.Option.{none-some}
 use Rattle.model.specs.declared.question.RepairOption.{RepairOption}
 use Rattle.model.specs.declared.question.RepairOption.TheVariants.{Discard, Repair, Move}
 use Rattle.model.specs.Books.{Book}
 use Rattle.model.specs.Letters.{letter}
 use Rattle.model.specs.Studies.{Model, Limits}
-use Rattle.plans.proofs.Below.{some_is_not_none}
 use Rattle.plans.proofs.Reading.{parent_before}
 use Rattle.selections.specs.Selections.{Selection, Selected, ExactlyOne, IsTop, IsUnder, AskedFor, at_the_top, moved, out_of, Consistent}
 
@@ -155,11 +155,11 @@ settled {s} {x} {i} {a} {f} route =
 -- a top component is first asked for at echelon 1 alone
 top_begins : {s : Model} {x : Selection} {i e : ℕ} → IsTop s i → Begins s x i e → e ≡ 1
 top_begins is (at_first also) = refl
-top_begins is (at_repair p e other h) = absurd (some_is_not_none (sym other.1 ∙ is.1))
+top_begins is (at_repair p e other h) = absurd (none-some _ (sym is.1 ∙ other.1))
 
 -- a subcomponent at the end of its parent's route alone
 under_begins : {s : Model} {x : Selection} {i p a f e : ℕ} → IsUnder s i p → Route s x p a f → Begins s x i e → e ≡ f
-under_begins is route (at_first other) = absurd (some_is_not_none (sym is.1 ∙ other.1))
+under_begins is route (at_first other) = absurd (none-some _ (sym other.1 ∙ is.1))
 under_begins {s} {x} {i} {p} is route (at_repair q e other h) =
     let same : q ≡ p = cc in
     repaired_at_end route e (subst (λ j. Selected x j e Repair) same h)

@@ -1,6 +1,5 @@
 -- What an option that a plan uses tells of the component's byte.
-use Rattle.std.proofs.Common.{◌≡◌, ℕ, ◌+◌, ◌*◌, ◌<◌, ◌⊎◌, List, refl, inl, inr, arith}
-use Rattle.std.proofs.lemmas.Bool.{cases_eq}
+use Rattle.std.proofs.Common.{◌≡◌, ℕ, ◌+◌, ◌*◌, ◌<◌, List, refl, arith}
 use Rattle.model.specs.declared.question.RepairOption.{RepairOption}
 use Rattle.model.specs.declared.question.RepairOption.TheVariants.{Discard, Repair, Move}
 use Rattle.model.specs.Studies.{Model}
@@ -29,7 +28,3 @@ tells_one b e Repair Move h k = absurd (omega arith)
 tells_one b e Move Discard h k = absurd (omega arith)
 tells_one b e Move Repair h k = absurd (omega arith)
 tells_one b e Move Move h k = refl
-
--- a byte is odd or even: it discards or repairs at its final echelon
-pub odd_or_even : (b : ℕ) → (b + 1 ≡ 2 * final b) ⊎ (b ≡ 2 * final b)
-odd_or_even b = elim (cases_eq b (2 * final b)) [ inl h ↦ inr h | inr h ↦ inl (omega arith) ]

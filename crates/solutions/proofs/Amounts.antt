@@ -1,5 +1,6 @@
 -- The questions that pass a test as an amount of the solver's argument: open where each is open, and the row of their postings.
-use Rattle.std.proofs.Common.{◌≡◌, ℕ, zero, suc, ◌<◌, Bool, true, false, cond, List, [], ◌∷◌, ◌++◌, length, Some, None, Option, sym, refl, ap, ◌∙◌, ap₂, arith}
+use Rattle.std.proofs.Common.{◌≡◌, ℕ, zero, suc, ◌<◌, Bool, true, false, cond, List, [], ◌∷◌, ◌++◌, map, length, Some, None, Option, sym, refl, ap, ◌∙◌, ap₂, arith}
+use Rattle.std.proofs.lemmas.List.{map-append}
 use Rattle.std.proofs.lemmas.Bool.{and_parts, and_from, false≢true}
 use Rattle.costs.specs.declared.posting.Posting.{Posting}
 use Rattle.costs.specs.Kinds.{Adding}
@@ -23,12 +24,7 @@ use Rattle.solutions.proofs.Lists.{onward}
 
 -- ---- rows without the proofs of their limits
 abbrev pub plain : List Entry → List Posting
-plain [] = []
-plain (p ∷ ps) = p.posting ∷ plain ps
-
-pub plain_append : (xs ys : List Entry) → plain (xs ++ ys) ≡ plain xs ++ plain ys
-plain_append [] ys = refl
-plain_append (x ∷ xs) ys = ap (λ ps. x.posting ∷ ps) (plain_append xs ys)
+plain = map (λ p. p.posting)
 
 module _ {C : Type 0} (k : Adding C) where
   plain_adds : (c : C) (xs : List Entry) → plus_postings k (Some c) (plain xs) ≡ Some (adds k c xs)
@@ -103,4 +99,4 @@ module _ (s : Model) (b : Book) (limits : Limits s) (kept : KeepsLimits b) where
     pub amount_plain : (qs : List Question) → plain (amount_of f qs).row ≡ posted_of s b f qs
     amount_plain [] = refl
     amount_plain (q ∷ qs) =
-        plain_append (asked (f q) q).row (amount_of f qs).row ∙ ap (λ ps. plain (asked (f q) q).row ++ ps) (amount_plain qs) ∙ asked_plain (f q) q (those f qs)
+        map-append _ (asked (f q) q).row (amount_of f qs).row ∙ ap (λ ps. plain (asked (f q) q).row ++ ps) (amount_plain qs) ∙ asked_plain (f q) q (those f qs)

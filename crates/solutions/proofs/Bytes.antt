@@ -1,12 +1,11 @@
--- The bytes of a study are all bytes up to the greatest, in the order of their ranks; and the assignments of bytes.
-use Rattle.std.proofs.Common.{◌≡◌, ℕ, zero, suc, ◌+◌, ◌*◌, ◌<◌, ◌≤◌, List, [], ◌∷◌, map, length, refl, ap, ◌∙◌, subst, arith}
-use Rattle.std.specs.List.{range_with_len, ContainsAt as Has, flat_map, AllByRecursion}
+-- The bytes of a study are all bytes up to the greatest, in the order of their ranks.
+use Rattle.std.proofs.Common.{◌≡◌, ℕ, zero, suc, ◌+◌, ◌*◌, ◌<◌, ◌≤◌, ◌∙◌, subst, arith}
+use Rattle.std.specs.List.{range_with_len, ContainsAt as Has, AllByRecursion}
 use Rattle.std.proofs.lemmas.List.FromFn.{length-range_with_len, get_or-range_with_len}
-use Rattle.std.proofs.ByRecursion.{All-append, All-map, All-weaker, has_get_or}
+use Rattle.std.proofs.ByRecursion.{has_get_or}
 use Rattle.plans.specs.Orders.{rank}
-use Rattle.theory.specs.Answers.{rows}
 use Rattle.theory.specs.ReadingOrder.{InOrder, ByteOrder}
-use Rattle.solutions.specs.Solved.{bytes, assignments}
+use Rattle.solutions.specs.Solved.{bytes}
 
 -- ---- bytes that are counted
 all_counted : (P : ℕ → Type 0) (n a : ℕ) → ((j : ℕ) → a ≤ j → j < a + n → P j) → AllByRecursion P (range_with_len a n)
@@ -25,24 +24,3 @@ bytes_in_order last = record {
       subst (Has (bytes last)) (get_or-range_with_len 0 (2 * last + 1) v 0 (omega arith) ∙ (let e : 0 + v ≡ v = omega arith in e))
       (has_get_or (bytes last) v 0 (omega (arith, length-range_with_len 0 (2 * last + 1))));
 }
-
--- ---- assignments
--- they are the rows that the solver's argument goes through
-pub assignments_are_rows : (choices : List ℕ) (n : ℕ) → assignments choices n ≡ rows choices n
-unfolding assignments rows
-assignments_are_rows choices zero = refl
-assignments_are_rows choices (suc n) = ap (λ rs. flat_map (λ v. map (λ r. v ∷ r) rs) choices) (assignments_are_rows choices n)
-
-each_joined : {X Y : Type 0} (P : X → Type 0) (g : Y → List X) → ((v : Y) → AllByRecursion P (g v)) → (ys : List Y) → AllByRecursion P (flat_map g ys)
-each_joined P g h [] = tt
-each_joined P g h (v ∷ ys) = All-append P (g v) (flat_map g ys) (h v) (each_joined P g h ys)
-
--- each has a byte for each component
-pub rows_have_length : (choices : List ℕ) (n : ℕ) → AllByRecursion (λ (r : List ℕ). length r ≡ n) (rows choices n)
-unfolding rows
-rows_have_length choices zero = (refl, tt)
-rows_have_length choices (suc n) =
-    each_joined (λ (r : List ℕ). length r ≡ suc n) (λ v. map (λ r. v ∷ r) (rows choices n))
-    (λ v. All-map (λ (r : List ℕ). length r ≡ suc n) (λ r. v ∷ r) (rows choices n)
-    (All-weaker (λ (r : List ℕ). length r ≡ n) (λ (r : List ℕ). length (v ∷ r) ≡ suc n) (λ r e. ap suc e) (rows choices n) (rows_have_length choices n)))
-    choices

@@ -1,5 +1,5 @@
 -- The least plan by the definition in the words of plans is what the definition of the solver's argument names.
-use Rattle.std.proofs.Common.{◌≡◌, ℕ, ◌≤◌, Bool, true, false, cond, List, [], ◌∷◌, length, Some, None, Ok, Err, fold, Option, Result, sym, refl, ap, ◌∙◌}
+use Rattle.std.proofs.Common.{◌≡◌, ℕ, ◌*◌, ◌≤◌, Bool, true, false, cond, List, [], ◌∷◌, Some, None, Ok, Err, fold, Option, Result, sym, refl, ap, ◌∙◌}
 use Rattle.std.specs.Result.{result_ok}
 use Rattle.std.specs.List.{AllByRecursion}
 use Rattle.std.proofs.ByRecursion.{All-weaker}
@@ -13,10 +13,11 @@ use Rattle.theory.specs.Amounts.{Amount, value}
 use Rattle.theory.specs.Answers.{rows, is_lower, costs_of, solved}
 use Rattle.theory.specs.Answers as theory
 use Rattle.theory.specs.Problems.{costs}
+use Rattle.theory.proofs.Rows.{RowOf, rows_are_rows}
 use Rattle.solutions.specs.Problems.{problem}
-use Rattle.solutions.specs.Solved.{bytes, Priced, keep_cost, keep_if, keep, least_plan}
+use Rattle.solutions.specs.Solved.{bytes, assignments, Priced, keep_cost, keep_if, keep, least_plan}
 use Rattle.solutions.proofs.Judging.{costs_are_judged}
-use Rattle.solutions.proofs.Bytes.{assignments_are_rows, rows_have_length}
+use Rattle.solutions.proofs.Bytes.{bytes_in_order}
 
 -- a plan with its cost, none where it has no cost
 abbrev pub plan_at : {C : Type 0} → Option C → List ℕ → Option (Priced C)
@@ -67,14 +68,14 @@ module _ {C : Type 0} (k : Adding C) (lower : C → C → Bool) where
         ap (λ o. fold (keep k lower s b) o xs) (keeps_alike best x h.0)
         ∙ folds_alike xs h.1 (theory.keep k lower f best x)
 
-  -- so the least plan is the row that is named, with its cost
+  -- so the least plan is the row that is named, with its cost: the assignments are the rows of the solver's argument
   pub least_is_named :
       (s : Model) (b : Book) (limits : Limits s) (kept : KeepsLimits b) → 1 ≤ count s
       → least_plan k lower s b ≡ with_cost k (costs (problem s b limits kept)) (solved k lower (costs (problem s b limits kept)) (bytes s.echelons) (count s))
-  unfolding least_plan solved
+  unfolding least_plan assignments solved rows
   least_is_named s b limits kept some =
-      ap (fold (keep k lower s b) None) (assignments_are_rows (bytes s.echelons) (count s))
-      ∙ folds_alike s b (costs (problem s b limits kept)) (rows (bytes s.echelons) (count s))
-      (All-weaker (λ (r : List ℕ). length r ≡ count s) (λ r. value k (costs (problem s b limits kept) r) ≡ result_ok (judged k s b r))
-      (λ r e. costs_are_judged k s b limits kept some r e) (rows (bytes s.echelons) (count s)) (rows_have_length (bytes s.echelons) (count s)))
+      folds_alike s b (costs (problem s b limits kept)) (rows (bytes s.echelons) (count s))
+      (All-weaker (RowOf (2 * s.echelons) (count s)) (λ r. value k (costs (problem s b limits kept) r) ≡ result_ok (judged k s b r))
+      (λ r h. costs_are_judged k s b limits kept some r h.0) (rows (bytes s.echelons) (count s))
+      (rows_are_rows (2 * s.echelons) (bytes s.echelons) (bytes_in_order s.echelons).only_bytes (count s)))
       None

@@ -1,7 +1,7 @@
 -- The pairs that a component needs by its way from its start, and those that it needs by the options it uses.
 use Rattle.std.proofs.Common.{◌≡◌, ℕ, zero, suc, ◌+◌, ◌-◌, ◌*◌, ◌<◌, ◌≤◌, Bool, false, cond, ◌&&◌, ◌||◌, eqb, leb, List, sym, refl, ap, ◌∙◌, arith}
 use lib.Dec.{eqb-suc-zero}
-use Rattle.std.proofs.lemmas.Bool.{cond-false, cond_both, eqb-true, eqb-false}
+use Rattle.std.proofs.lemmas.Bool.{cond-false}
 use Rattle.std.proofs.lemmas.Bool.Decides.{nat_tests}
 use Rattle.model.specs.declared.question.RepairOption.{RepairOption}
 use Rattle.model.specs.declared.question.RepairOption.TheVariants.{Discard, Repair, Move}
@@ -12,6 +12,7 @@ use Rattle.plans.specs.Postings.{component}
 use Rattle.plans.specs.Starts.{byte, final, start}
 use Rattle.plans.specs.Uses.{uses_at, needs_at}
 use Rattle.theory.specs.Needs.{route_needs, own_needs}
+use Rattle.theory.proofs.Routes.{ways_on}
 use Rattle.solutions.specs.Pairs.{pair_resource, pair_echelon}
 use Rattle.solutions.specs.Problems.{needs_of, table}
 use Rattle.solutions.proofs.Routed.{Suits}
@@ -35,15 +36,6 @@ module _ (a v e at : ℕ) (x y z : Bool) where
 
   not_reached : a ≡ 0 → false ≡ needs_here a v at x y z
   not_reached l = grind (arith, nat_tests)
-
--- what holds of each of the three ways on from echelon e with byte v holds of the way
-ways_on :
-    {A : Type 0} (v e : ℕ) (x y z : A) (Q : A → Type 0) → (suc v ≡ 2 * e → Q x) → (v ≡ 2 * e → Q y) → ((suc v ≡ 2 * e → ⊥) → (v ≡ 2 * e → ⊥) → Q z)
-    → Q (cond (eqb (suc v) (2 * e)) x (cond (eqb v (2 * e)) y z))
-ways_on v e x y z Q d r m =
-    cond_both (eqb (suc v) (2 * e)) x (cond (eqb v (2 * e)) y z) Q
-    (λ t. d (eqb-true _ _ t))
-    (λ t. cond_both (eqb v (2 * e)) y z Q (λ u. r (eqb-true _ _ u)) (λ u. m (eqb-false _ _ t) (eqb-false _ _ u)))
 
 module _ (s : Model) (b : Book) (limits : Limits s) (kept : KeepsLimits b) (plan : List ℕ) (i j : ℕ) where
   -- where component i starts, its byte, and the echelon of pair j

@@ -1,19 +1,17 @@
 -- A row of bytes is open in the solver's argument exactly where every component passes, and then it posts what the plan posts.
 use Rattle.std.proofs.Common.{◌≡◌, ℕ, ◌<◌, true, not, ◌&&◌, eqb, List, ◌++◌, length, sym, ap, ◌∙◌, ap₂}
+use Rattle.std.proofs.lemmas.List.{map-append}
 use Rattle.std.proofs.lemmas.Bool.{and_parts, and_from, eq-eqb, eqb-true}
 use Rattle.model.specs.declared.question.Question.{Question}
 use Rattle.model.specs.Books.{Book, KeepsLimits}
 use Rattle.model.specs.Studies.{Model, Limits}
 use Rattle.plans.specs.Questions.{count, component_questions, option_questions, pair_questions}
 use Rattle.plans.specs.Plans.{postings}
-use Rattle.plans.specs.Prices.{needs_pair}
-use Rattle.plans.specs.Uses.{needs_at, uses}
-use Rattle.plans.specs.Laws.{Among}
-use Rattle.plans.proofs.Below.{some_passes, which_passes}
+use Rattle.plans.specs.Uses.{uses}
 use Rattle.plans.proofs.Joined.{posted_append}
 use Rattle.plans.proofs.Members.{among_upto, upto_among}
 use Rattle.plans.proofs.Objecting.{Passes}
-use Rattle.plans.proofs.Surveyed.{asked_of_pairs}
+use Rattle.plans.proofs.PostedOnce.{need_is_use, use_is_need}
 use Rattle.theory.specs.Amounts.{Amount}
 use Rattle.theory.specs.Marks.{blocked}
 use Rattle.theory.specs.Problems.{Problem, costs}
@@ -21,24 +19,9 @@ use Rattle.theory.specs.Problems as theory
 use Rattle.theory.specs.Searches.{pair_postings}
 use Rattle.solutions.specs.Pairs.{pair_question}
 use Rattle.solutions.specs.Problems.{problem}
-use Rattle.solutions.proofs.Amounts.{plain, plain_append, amount_of, amount_open, open_amount, amount_plain}
+use Rattle.solutions.proofs.Amounts.{plain, amount_of, amount_open, open_amount, amount_plain}
 use Rattle.solutions.proofs.Options.{AllSuit, spent_posts, spent_suits, needed_is_used}
 use Rattle.solutions.proofs.PairAmounts.{pairs_below, pairs_by_number, clear_is_open, pairs_post}
-
--- ---- a pair that some component needs is used, and one that is used some component needs
-module _ (s : Model) (plan : List ℕ) (q : Question) (m : Among q (pair_questions s)) where
-  need_is_use : (i : ℕ) → i < count s → needs_pair s plan i q ≡ true → uses s plan q ≡ true
-  need_is_use i l u =
-      let of = asked_of_pairs s q m in
-      let is = of.1.1 in
-      ap (uses s plan) is ∙ some_passes (needs_at s plan of.0 of.1.0) (count s) i l (sym (ap (needs_pair s plan i) is) ∙ u)
-
-  use_is_need : uses s plan q ≡ true → (i : ℕ) × (i < count s) × (needs_pair s plan i q ≡ true)
-  use_is_need u =
-      let of = asked_of_pairs s q m in
-      let is = of.1.1 in
-      let found = which_passes (needs_at s plan of.0 of.1.0) (count s) (sym (ap (uses s plan) is) ∙ u) in
-      (found.0, found.1, ap (needs_pair s plan found.0) is ∙ found.2)
 
 module _ (s : Model) (b : Book) (limits : Limits s) (kept : KeepsLimits b) (plan : List ℕ) where
   abbrev y : Problem
@@ -73,7 +56,7 @@ module _ (s : Model) (b : Book) (limits : Limits s) (kept : KeepsLimits b) (plan
     -- the row of postings is the plan's
     plain_alike : (used (pair_questions s)).is_open ≡ true → plain (costs y plan).row ≡ postings s b plan
     plain_alike h =
-        plain_append (theory.options_of y plan).row (pair_postings y.pair (theory.needs_of y plan) y.pairs)
+        map-append _ (theory.options_of y plan).row (pair_postings y.pair (theory.needs_of y plan) y.pairs)
         ∙ ap₂ ◌++◌
         (ap (λ (x : Amount). plain x.row) options_alike ∙ amount_plain s b limits kept (uses s plan) (option_questions s))
         (ap plain (row_alike h) ∙ amount_plain s b limits kept (uses s plan) (pair_questions s))

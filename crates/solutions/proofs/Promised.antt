@@ -1,8 +1,7 @@
 -- Solving answers the least plan, first in reading order, exactly where a plan exists.
-use Rattle.std.proofs.Common.{◌≡◌, ℕ, ◌≤◌, Bool, false, cond, List, [], ◌∷◌, ◌++◌, take, drop, Some, None, Ok, Err, Option, sym, refl, ◌∙◌, subst, subst₂, inl, inr, ⊎_elim, arith}
+use Rattle.std.proofs.Common.{◌≡◌, ℕ, ◌≤◌, Bool, false, cond, List, ◌++◌, take, drop, Some, None, Option, sym, refl, ◌∙◌, subst, subst₂, inl, inr, ⊎_elim}
 use Rattle.std.proofs.lemmas.List.{take_at}
 use Rattle.costs.specs.Kinds.{Adding, Laws}
-use Rattle.model.specs.declared.refusal.Refusal.{Refusal}
 use Rattle.model.specs.Books.{Book, KeepsLimits}
 use Rattle.model.specs.Studies.{Model, Limits}
 use Rattle.plans.specs.Questions.{count}
@@ -25,17 +24,6 @@ use Rattle.solutions.proofs.Judging.{open_costs, open_is_plan, plan_is_open}
 use Rattle.solutions.proofs.Bytes.{bytes_in_order}
 use Rattle.solutions.proofs.Least.{plan_at, with_cost, least_is_named}
 use Rattle.solutions.proofs.Proper.{problem_proper}
-
--- reading order of the solver's argument is that of plans
-before_alike : (xs ys : List ℕ) → reading.Before rank xs ys → Before xs ys
-before_alike [] [] h = h
-before_alike [] (y ∷ ys) h = h
-before_alike (x ∷ xs) [] h = h
-before_alike (x ∷ xs) (y ∷ ys) (inl h) = inl h
-before_alike (x ∷ xs) (y ∷ ys) (inr h) = inr (h.0, before_alike xs ys h.1)
-
-refusal_is_no_cost : {C : Type 0} {why : Refusal} {c : C} → Err why ≡ Ok c → ⊥
-refusal_is_no_cost h = let never : ◌≡◌ {A = ℕ} 0 1 = cc in omega arith
 
 module _ {C : Type 0} {k : Adding C} {lower : C → C → Bool} (laws : Laws k lower) (s : Model) (b : Book) (limits : Limits s) (kept : KeepsLimits b) (some : 1 ≤ count s) (place : List ℕ) where
   abbrev y : Problem
@@ -72,7 +60,7 @@ module _ {C : Type 0} {k : Adding C} {lower : C → C → Bool} (laws : Laws k l
             let is : cost p ≡ c = cc in
             ⊎_elim
             (λ same. inl (sym same ∙ front))
-            (λ before. inr (subst (λ f. Before f q) front (before_alike p q before)))
+            (λ before. inr (subst (λ f. Before f q) front before))
             (ok.first q (opens q is_plan) (sym (cost_is q is_plan c costs-c) ∙ sym is));
       }
 
@@ -84,9 +72,9 @@ module _ {C : Type 0} {k : Adding C} {lower : C → C → Bool} (laws : Laws k l
   settled None h = record {
     a_plan_if_one_exists = λ p plan. absurd (h p (plan_is_open k s b limits kept some p plan));
     refused_if_none_exists = λ _. refl;
-    a_plan_at_its_cost = λ c e. absurd (refusal_is_no_cost e);
-    none_is_lower = λ c d p e. absurd (refusal_is_no_cost e);
-    first_at_its_cost = λ c p e. absurd (refusal_is_no_cost e);
+    a_plan_at_its_cost = λ c e. absurd cc;
+    none_is_lower = λ c d p e. absurd cc;
+    first_at_its_cost = λ c p e. absurd cc;
   }
   settled (Some p) h =
       subst (λ t. Keeps (answered s place (plan_at (cond t (Some (cost p)) None) p))) (sym h.plan) (named p h)
