@@ -4,6 +4,7 @@
 ghost use Rattle.cases.specs.Figures.{FiguresFollow};
 
 // Every worked figure of the list follows from the definitions that the contracts cite.
+#[tactic(auto, unfolding(solutions::specs::Solved::assignments, solutions::specs::Solved::least_plan))]
 pub fn worked_figures()
     ensures { FiguresFollow }
 {}
