@@ -48,11 +48,7 @@ module _ (s : Model) (b : Book) (plan : List ℕ) (limits : Limits s) (is_plan :
 
   module _ (i : ℕ) (l : i < count s) where
     byte_fits : byte plan i ≤ 2 * s.echelons
-    byte_fits =
-        elim (cases_lt (byte plan i) 1) [
-          | inl k ↦ omega arith
-          | inr h ↦ let reached = is_plan.decided_is_reached i l h in (plan_fit i reached.0 reached.1).1
-        ]
+    byte_fits = grind arith
 
     from_the_start : start s plan i ≤ final (byte plan i)
     from_the_start =

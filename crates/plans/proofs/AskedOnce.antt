@@ -15,7 +15,7 @@ use Rattle.plans.proofs.Surveyed.{asked_at, asked_of_component, asked_of_resourc
 
 -- two options of a component at an echelon are two questions
 unlike : (i e : ℕ) (o p : RepairOption) → (letter o ≡ letter p → ⊥) → OfOption i e o ≡ OfOption i e p → ⊥
-unlike i e o p differ h = let same : o ≡ p = cc in differ (ap letter same)
+unlike i e o p differ h = grind arith
 
 distinct_at : (last i e : ℕ) → Distinct (echelon_questions last i e)
 distinct_at last i e =

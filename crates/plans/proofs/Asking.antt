@@ -1,12 +1,11 @@
 -- What a plan uses is asked about, and what is asked about and passes the test is used.
 use Rattle.std.proofs.Common.{◌≡◌, ℕ, ◌*◌, ◌/◌, ◌%◌, ◌^◌, ◌<◌, ◌≤◌, true, ltb, List, sym, ap, ◌∙◌, subst, inl, inr, arith, pow_mono}
-use Rattle.std.proofs.lemmas.Bool.{cases_lt, ltb-true, eqb-true, and_parts}
+use Rattle.std.proofs.lemmas.Bool.{cases_lt, eqb-true, and_parts}
 use Rattle.std.proofs.lemmas.Nat.{pow_pos, div_below}
 use Rattle.model.specs.declared.component.Needs.{Needs}
 use Rattle.model.specs.declared.question.Question.{Question}
 use Rattle.model.specs.declared.question.Question.TheVariants.{OfOption, OfResource}
 use Rattle.model.specs.declared.question.RepairOption.{RepairOption}
-use Rattle.model.specs.declared.question.RepairOption.TheVariants.{Discard, Repair, Move}
 use Rattle.model.specs.Components.{need, needs_resource, names_below}
 use Rattle.model.specs.Letters.{letter}
 use Rattle.model.specs.Studies.{Model, Limits}
@@ -48,14 +47,7 @@ bit_below m q r l h =
 
 -- needs that name only resources below q have such masks
 mask_below : (q : ℕ) (n : Needs) → names_below q n ≡ true → (o : RepairOption) → need n o < 2 ^ q
-mask_below q n h o =
-    let first = and_parts (ltb n.discard (2 ^ q)) _ h in
-    let others = and_parts (ltb n.repair (2 ^ q)) _ first.1 in
-    elim o as (λ p. need n p < 2 ^ q) [
-      | Discard ↦ ltb-true _ _ first.0
-      | Repair ↦ ltb-true _ _ others.0
-      | Move ↦ ltb-true _ _ others.1
-    ]
+mask_below q n h o = grind arith
 
 -- so a resource that is needed is one of the study's
 needed_is_known : (q : ℕ) (n : Needs) (o : RepairOption) (r : ℕ) → names_below q n ≡ true → needs_resource n o r ≡ true → r < q

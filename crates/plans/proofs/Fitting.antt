@@ -1,10 +1,9 @@
 -- Every posting is within its limits.
-use Rattle.std.proofs.Common.{ℕ, suc, ◌*◌, ◌≤◌, List, [], ◌∷◌, length, ℤ, pos, negsuc, ◌*ℤ◌, neg_ℤ, ◌≤ℤ◌, Some, None, Option, inl, inr, arith}
+use Rattle.std.proofs.Common.{ℕ, suc, ◌*◌, ◌≤◌, List, [], ◌∷◌, ℤ, pos, negsuc, ◌*ℤ◌, neg_ℤ, ◌≤ℤ◌, Some, None, Option, arith}
 use Rattle.std.specs.List.{AllByRecursion}
+use Rattle.std.proofs.lemmas.Grind.{common_steps}
 use Rattle.std.proofs.lemmas.Nat.{mul-le}
-use Rattle.std.proofs.lemmas.List.{get_or_past}
 use Rattle.std.proofs.lemmas.Int.{ints}
-use Rattle.std.proofs.lemmas.Bool.{cases_lt, leb-true, and_parts}
 use Rattle.costs.specs.declared.posting.Posting.{Posting}
 use Rattle.costs.specs.Postings.{Within}
 use Rattle.model.specs.declared.answer.Answer.{Answer}
@@ -14,7 +13,6 @@ use Rattle.model.specs.declared.question.Question.{Question}
 use Rattle.model.specs.declared.question.Question.TheVariants.{OfOption, OfResource}
 use Rattle.model.specs.declared.question.RepairOption.{RepairOption}
 use Rattle.model.specs.Books.{Book, OptionLimits, ResourceLimits, InLimits, KeepsLimits}
-use Rattle.model.specs.Components.{no_component}
 use Rattle.model.specs.Studies.{Model, Limits}
 use Rattle.plans.specs.Postings.{component, posted, posting_of, posting, add_posting, postings_for}
 
@@ -31,11 +29,7 @@ taken n m c (negsuc a) h low high =
 
 -- a component fails at most 1,000,000 times in a thousand years
 few_failures : (s : Model) (i : ℕ) → Limits s → (component s i).rate ≤ 1_000_000
-few_failures s i l =
-    elim (cases_lt i (length s.components)) [
-      | inl h ↦ leb-true _ _ (and_parts _ _ (l.sound_rows i h).4).1
-      | inr h ↦ rw (get_or_past s.components i no_component h) (omega arith)
-    ]
+few_failures s i l = grind (arith, common_steps)
 
 option_within : (n : ℕ) (c : Charge) → n ≤ 1_000_000 → OptionLimits c → Within (posted n c)
 option_within n c h l =

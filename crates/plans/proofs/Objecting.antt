@@ -1,6 +1,6 @@
 -- What it says of a component that it meets no objection.
 use Rattle.std.proofs.Common.{◌≡◌, ℕ, ◌*◌, ◌≤◌, Bool, true, false, leb, List, None, Option, sym, refl, arith}
-use Rattle.std.proofs.lemmas.Bool.{leb-true, le-leb, false≢true}
+use Rattle.std.proofs.lemmas.Bool.{leb-true, le-leb}
 use Rattle.std.proofs.lemmas.Bool.Decides.{nat_tests}
 use Rattle.std.proofs.lemmas.Option.{none-some}
 use Rattle.model.specs.declared.question.Question.{Question}
@@ -31,8 +31,7 @@ passed true why rest h = (refl, h)
 passed false why rest h = absurd (none-some why (sym h))
 
 unobjected : (test : Bool) (why : Refusal) (rest : Option Refusal) → test ≡ true → rest ≡ None → object test why rest ≡ None
-unobjected true why rest t h = h
-unobjected false why rest t h = absurd (false≢true t)
+unobjected test why rest t h = cc
 
 -- two numbers are both 0 or both not
 agreed : (m n : ℕ) → agree (leb 1 m) (leb 1 n) ≡ true → (1 ≤ m → 1 ≤ n) × (1 ≤ n → 1 ≤ m)
@@ -43,8 +42,7 @@ agrees m n f g = grind (arith, nat_tests)
 
 -- what is used is open, for one question and for a list of them
 opened : (b : Book) (used : Bool) (q : Question) → open_if b used q ≡ true → used ≡ true → is_open b q ≡ true
-opened b true q h u = h
-opened b false q h u = absurd (false≢true u)
+opened b used q h u = cc
 
 opens : (b : Book) (used : Bool) (q : Question) → (used ≡ true → is_open b q ≡ true) → open_if b used q ≡ true
 opens b true q h = h refl

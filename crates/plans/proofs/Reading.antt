@@ -1,8 +1,7 @@
 -- The start of a component is read off its parent's byte.
-use Rattle.std.proofs.Common.{◌≡◌, ℕ, ◌*◌, ◌<◌, ◌≤◌, ◌+◌, ◌⊎◌, List, Some, None, Option, sym, refl, ap, ◌∙◌, inl, inr, arith}
-use Rattle.std.proofs.lemmas.Bool.{cases_eq, ltb-true}
+use Rattle.std.proofs.Common.{◌≡◌, ℕ, ◌*◌, ◌<◌, ◌≤◌, ◌+◌, ◌⊎◌, List, Some, None, Option, refl, ap, ◌∙◌, inl, inr, arith}
+use Rattle.std.proofs.lemmas.Bool.{cases_eq}
 use Rattle.std.proofs.lemmas.Bool.Decides.{nat_tests}
-use Rattle.model.specs.Components.{is_entered}
 use Rattle.model.specs.Studies.{Model, Limits}
 use Rattle.plans.specs.Questions.{count}
 use Rattle.plans.specs.Starts.{byte, final, parent, Starts, top, under, repaired_at, start_under, start}
@@ -22,8 +21,7 @@ odd_or_even b = elim (cases_eq b (2 * final b)) [ inl h ↦ inr h | inr h ↦ in
 
 -- a component that starts is one of the study
 pub started_is_entered : {s : Model} {plan : List ℕ} {i a : ℕ} → Starts s plan i a → i < count s
-started_is_entered (top i l h) = l
-started_is_entered (under i p a e l h r t o) = l
+started_is_entered r = grind arith
 
 -- the start is what is read, and not 0
 pub start_read : {s : Model} {plan : List ℕ} {i a : ℕ} → Starts s plan i a → (start s plan i ≡ a) × (1 ≤ a)
@@ -36,7 +34,7 @@ DecidedBefore s plan n = (j : ℕ) → j < n → 1 ≤ byte plan j → (a : ℕ)
 
 -- a parent is entered before its component
 pub parent_before : (s : Model) (i p : ℕ) → Limits s → i < count s → parent s i ≡ Some p → p < i
-parent_before s i p limits l e = ltb-true p i (sym (ap (is_entered i) e) ∙ (limits.sound_rows i l).0)
+parent_before s i p limits l e = grind arith
 
 read_under :
     (s : Model) (plan : List ℕ) (i : ℕ) (o : Option ℕ)

@@ -1,10 +1,9 @@
 -- The bytes read off a consistent selection are a plan, and it describes the selection.
-use Rattle.std.proofs.Common.{◌≡◌, ℕ, zero, suc, ◌+◌, ◌<◌, ◌≤◌, List, ap, subst, inl, inr, arith}
+use Rattle.std.proofs.Common.{◌≡◌, ℕ, zero, suc, ◌+◌, ◌<◌, ◌≤◌, List, subst, inl, inr, arith}
 use Rattle.std.proofs.lemmas.Bool.{cases_eq}
 use Rattle.model.specs.declared.question.RepairOption.{RepairOption}
 use Rattle.model.specs.declared.question.RepairOption.TheVariants.{Discard, Repair, Move}
 use Rattle.model.specs.Books.{Book}
-use Rattle.model.specs.Letters.{letter}
 use Rattle.model.specs.Studies.{Model, Limits}
 use Rattle.plans.specs.Questions.{count}
 use Rattle.plans.specs.Starts.{byte, final, Starts, top, under}
@@ -15,19 +14,17 @@ use Rattle.selections.specs.Selections.{Selection, Selected, Consistent}
 use Rattle.selections.specs.Laws.{Describes}
 use Rattle.selections.proofs.Telling.{Tells}
 use Rattle.plans.proofs.Reading.{parent_before}
-use Rattle.selections.proofs.Routes.{Begins, at_first, at_repair, Route, one_only, settled_at_end, begins, route_of}
+use Rattle.selections.proofs.Routes.{Begins, at_first, at_repair, Route, settled_at_end, begins, route_of}
 use Rattle.selections.proofs.Bytes.{plan_of, length_plan_of, Says, decided_says, route_says}
 
 -- where exactly one option is selected, discard and repair are not both
 not_both : {s : Model} {x : Selection} {i a f : ℕ} → Route s x i a f → Selected x i f Discard → Selected x i f Repair → ⊥
-not_both {s} {x} {i} {a} {f} route d r =
-    let rising = route.climb.rising in
-    omega (arith, ap letter (one_only (route.climb.one_each f rising (omega arith)) Discard Repair d r))
+not_both route d r = grind arith
 
 -- a byte that says what is selected at the end of a route tells of each option that is selected on it, and of no other
 module _ (s : Model) (x : Selection) (i a f b : ℕ) (route : Route s x i a f) (says : Says x i b f) where
   says_final : final b ≡ f
-  says_final = elim says [ inl d ↦ omega (arith, d.0) | inr r ↦ omega (arith, r.0) ]
+  says_final = omega arith
 
   selected_tells : (e : ℕ) (o : RepairOption) → Selected x i e o → Tells b e o
   selected_tells e Discard h =
@@ -105,7 +102,7 @@ module _ (s : Model) (b : Book) (x : Selection) (limits : Limits s) (consistent 
       record { end = found.0; route = found.1; says = route_says s x i (started_is_entered r) a found.0 found.1 }
 
   way_final : {i a : ℕ} (r : Starts s (plan_of s x) i a) → final (byte (plan_of s x) i) ≡ (way r).end
-  way_final {i} {a} r = says_final s x i a (way r).end _ (way r).route (way r).says
+  way_final {i} {a} r = grind arith
 
   -- what is selected is used, and what is used is selected
   selected_is_used : (i e : ℕ) (o : RepairOption) → Selected x i e o → Uses s (plan_of s x) i e o

@@ -1,6 +1,6 @@
 -- What a consistent selection selects for a component: it is moved from the echelon where it is first asked for up to the
 -- one where it is discarded or repaired, and nothing else.
-use Rattle.std.proofs.Common.{◌≡◌, ℕ, zero, suc, ◌+◌, ◌-◌, ◌<◌, ◌≤◌, ◌⊎◌, sym, refl, ap, ◌∙◌, subst, inl, inr, arith}
+use Rattle.std.proofs.Common.{◌≡◌, ℕ, zero, suc, ◌+◌, ◌-◌, ◌<◌, ◌≤◌, ◌⊎◌, sym, refl, ◌∙◌, subst, inl, inr, arith}
 use Rattle.std.proofs.lemmas.Bool.{cases_eq, cases_lt}
 use Rattle.std.proofs.lemmas.Option.{none-some}
 use Rattle.model.specs.declared.question.RepairOption.{RepairOption}
@@ -37,7 +37,7 @@ one_only one o p h k = one.no_other o h ∙ sym (one.no_other p k)
 
 -- so where another than move is, none is moved
 not_moved_by : {x : Selection} {i e : ℕ} → ExactlyOne x i e → (o : RepairOption) → (letter o ≡ letter Move → ⊥) → Selected x i e o → Selected x i e Move → ⊥
-not_moved_by one o differ h k = differ (ap letter (one_only one o Move h k))
+not_moved_by one o differ h k = grind arith
 
 -- the climb ends where it begins, or goes on from the next echelon
 ends_here : (last : ℕ) (x : Selection) (i a : ℕ) → a ≤ last → ExactlyOne x i a → (Selected x i a Move → ⊥) → Climb last x i a a

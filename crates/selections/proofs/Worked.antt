@@ -1,10 +1,8 @@
 -- The worked examples on study X.
-use Rattle.std.proofs.Common.{◌≡◌, ℕ, zero, suc, ◌<◌, true, length, get_or, Ok, sym, refl, subst, arith}
+use Rattle.std.proofs.Common.{◌≡◌, ℕ, zero, suc, ◌<◌, true, length, get_or, Ok, refl, subst, arith}
 use Rattle.std.proofs.lemmas.List.{take_all}
-use Rattle.std.proofs.lemmas.Bool.{false≢true}
-use Rattle.std.proofs.lemmas.Option.{none-some}
 use Rattle.costs.specs.Amounts.{money}
-use Rattle.model.specs.declared.question.RepairOption.TheVariants.{Discard, Repair}
+use Rattle.model.specs.declared.question.RepairOption.TheVariants.{Discard}
 use Rattle.model.specs.Components.{no_component, Row}
 use Rattle.model.specs.Studies.{Limits}
 use Rattle.plans.specs.Ranges.{every}
@@ -13,7 +11,7 @@ use Rattle.plans.specs.Plans.{IsPlan, Costs}
 use Rattle.plans.specs.Prices.{priced}
 use Rattle.plans.proofs.Pricing.{accepts_exactly_plans}
 use Rattle.cases.specs.StudyX.{study_x, book_x}
-use Rattle.selections.specs.Selections.{Selected, AskedFor, at_the_top, moved, out_of}
+use Rattle.selections.specs.Selections.{AskedFor}
 use Rattle.selections.specs.Examples.{selecting, Example, with_superfluous, Agrees, ExamplesAgree}
 use Rattle.selections.proofs.Described.{described_is_consistent}
 use Rattle.selections.proofs.Chosen.{chosen}
@@ -58,12 +56,7 @@ module _ (x : Example) (two : length x.plan ≡ 2) (answer : priced money study_
 
 -- nothing asks for component 1 at echelon 1: it is no top component, is not moved from below, and its parent is not repaired there
 not_asked : {e : ℕ} → AskedFor study_x (selecting with_superfluous) 1 e → e ≡ 1 → ⊥
-not_asked (at_the_top is) same = none-some _ (sym is.1)
-not_asked (moved zero h) same = false≢true h
-not_asked (moved (suc e) h) same = omega arith
-not_asked (out_of p e is h) same =
-    let parent : 0 ≡ p = cc is.1 in
-    false≢true (subst (λ j. Selected (selecting with_superfluous) 0 j Repair) same (subst (λ j. Selected (selecting with_superfluous) j e Repair) (sym parent) h))
+not_asked asked same = grind arith
 
 pub examples_agree : ExamplesAgree
 examples_agree = record {

@@ -34,9 +34,6 @@ module _ (a v e at : ℕ) (x y z : Bool) where
   from_start : 1 ≤ a → a ≤ final v → (leb a at && needs_here a v at x y z) ≡ needs_here a v at x y z
   from_start l m = grind (arith, nat_tests)
 
-  not_reached : a ≡ 0 → false ≡ needs_here a v at x y z
-  not_reached l = grind (arith, nat_tests)
-
 module _ (s : Model) (b : Book) (limits : Limits s) (kept : KeepsLimits b) (plan : List ℕ) (i j : ℕ) where
   -- where component i starts, its byte, and the echelon of pair j
   abbrev a : ℕ
@@ -76,7 +73,7 @@ module _ (s : Model) (b : Book) (limits : Limits s) (kept : KeepsLimits b) (plan
       ap (λ t. (eqb at (suc m) && z) || t) rest ∙ moves_need a v (suc m) at x y z reached l more)
 
   own_needs_is : Suits s.echelons a v → (e : ℕ) → a ≡ e → own_needs (table s b limits kept) (needs_of s b limits kept) (suc i) e v j ≡ needs
-  own_needs_is ok zero z = not_reached a v a at (option_needs Discard) (option_needs Repair) (option_needs Move) z
+  own_needs_is ok zero z = cc
   own_needs_is ok (suc m) z =
       let fits = ok.byte_fits in
       let from = ok.from_the_start in

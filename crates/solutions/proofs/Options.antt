@@ -1,7 +1,6 @@
 -- What bytes post for options and which pairs they need, for all components of a study.
-use Rattle.std.proofs.Common.{◌≡◌, ℕ, zero, suc, ◌<◌, true, cond, ◌||◌, eqb, List, ◌∷◌, get_or, Some, None, Option, sym, refl, ap, ◌∙◌, subst, ap₂, ⊎_elim, arith}
-use lib.Dec.{eqb-suc-zero}
-use Rattle.std.proofs.lemmas.Bool.{and_parts, cases_eq, cond-false}
+use Rattle.std.proofs.Common.{◌≡◌, ℕ, zero, suc, ◌<◌, true, cond, ◌||◌, eqb, List, ◌∷◌, get_or, Option, sym, refl, ap, ◌∙◌, subst, ap₂, ⊎_elim, arith}
+use Rattle.std.proofs.lemmas.Bool.{and_parts, cases_eq}
 use Rattle.model.specs.Books.{Book, KeepsLimits}
 use Rattle.model.specs.Studies.{Model, Limits}
 use Rattle.plans.specs.Ranges.{upto, some_below}
@@ -26,8 +25,7 @@ AllSuit s plan n = (i : ℕ) → i < n → Suits s.echelons (start s plan i) (by
 
 -- where a component starts, by the number of its parent
 start_by_number : (plan : List ℕ) (o : Option ℕ) → cond (eqb (parent_number o) 0) 1 (repaired_at (get_or (0 ∷ plan) (parent_number o) 0)) ≡ start_under plan o
-start_by_number plan None = refl
-start_by_number plan (Some p) = cond-false (eqb (suc p) 0) 1 _ (eqb-suc-zero p)
+start_by_number plan o = grind arith
 
 module _ (s : Model) (b : Book) (limits : Limits s) (kept : KeepsLimits b) (plan : List ℕ) where
   starts_alike : (i : ℕ) → breakdowns.start (breakdown (table s b limits kept)) (bytes_of plan) (suc i) ≡ start s plan i

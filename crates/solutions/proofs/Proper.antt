@@ -1,14 +1,11 @@
 -- A study with a component is a proper problem of the solver's argument.
-use Rattle.std.proofs.Common.{◌≡◌, ℕ, ◌≤◌, true, ℤ, pos, ◌*ℤ◌, ◌≤ℤ◌, Some, None, Option, unwrap_or, ap, ⊎_elim, arith}
-use Rattle.std.proofs.lemmas.List.{get_or_past}
+use Rattle.std.proofs.Common.{ℕ, ◌≤◌, ℤ, pos, ◌*ℤ◌, ◌≤ℤ◌, unwrap_or, arith}
+use Rattle.std.proofs.lemmas.Grind.{common_steps}
 use Rattle.std.proofs.lemmas.Int.{ints}
-use Rattle.std.proofs.lemmas.Bool.{cases_lt, ltb-true}
 use Rattle.model.specs.declared.answer.Answer.{Answer}
 use Rattle.model.specs.declared.answer.Answer.TheVariants.{Charged, Barred, Faulty}
-use Rattle.model.specs.declared.component.Component.{Component}
 use Rattle.model.specs.declared.question.Question.TheVariants.{OfResource}
 use Rattle.model.specs.Books.{Book, InLimits, KeepsLimits}
-use Rattle.model.specs.Components.{no_component, is_entered}
 use Rattle.model.specs.Studies.{Model, Limits}
 use Rattle.plans.specs.Questions.{count}
 use Rattle.plans.specs.Postings.{posting_of}
@@ -21,16 +18,9 @@ use Rattle.theory.proofs.Places.{echelons_rise}
 use Rattle.solutions.specs.Pairs.{pair_resource, pair_echelon, pair_question}
 use Rattle.solutions.specs.Problems.{with_proof, parent_number, table, problem}
 
--- a parent entered before component i has a number of at most i
-parent_low : (i : ℕ) (o : Option ℕ) → is_entered i o ≡ true → parent_number o ≤ i
-parent_low i None h = omega arith
-parent_low i (Some p) h = omega (arith, ltb-true p i h)
-
+-- a parent is entered before its component, and so has a number of at most i
 parent_before : (s : Model) → Limits s → (i : ℕ) → parent_number (parent s i) ≤ i
-parent_before s limits i = ⊎_elim
-    (λ l. parent_low i (parent s i) (limits.sound_rows i l).0)
-    (λ l. let none : parent_number (parent s i) ≡ 0 = ap (λ (c : Component). parent_number c.parent) (get_or_past s.components i no_component l) in omega arith)
-    (cases_lt i (count s))
+parent_before s limits i = grind (arith, common_steps)
 
 -- a thousand times an amount that is not negative is not negative
 thousand : (z : ℤ) → pos 0 ≤ℤ z → pos 0 ≤ℤ (pos 1000 *ℤ z)

@@ -19,7 +19,6 @@ use Rattle.theory.specs.Places.{echelons}
 use Rattle.theory.specs.Tables.{own}
 use Rattle.theory.proofs.Places.{echelons_rise}
 use Rattle.theory.proofs.Routes.{both_nothing, route_ways, route_byte}
-use Rattle.theory.proofs.Tables.{unreached}
 use Rattle.solutions.specs.Problems.{entry, entry_at, options_of, table}
 use Rattle.solutions.proofs.Lists.{onward, upto_onward}
 use Rattle.solutions.proofs.Amounts.{amount_of, amount_append, upto_nothing, onward_nothing}
@@ -119,7 +118,7 @@ module _ (s : Model) (b : Book) (limits : Limits s) (kept : KeepsLimits b) where
 
     -- a reached component goes by its route
     places_left : (m : ℕ) → (echelons s.echelons).above (suc m) ≡ suc s.echelons - suc m
-    places_left m = cond-false (eqb (suc m) 0) 0 (suc s.echelons - suc m) (eqb-suc-zero m)
+    places_left m = grind arith
 
     own_reached : (m : ℕ) → posts_own (suc m) ≡ route suc (options_of s b limits kept (suc i)) (suc s.echelons - suc m) (suc m) v
     own_reached m =
@@ -137,9 +136,7 @@ module _ (s : Model) (b : Book) (limits : Limits s) (kept : KeepsLimits b) where
     own_posts ok = own_is ok a refl
 
     own_suits : (e : ℕ) → (posts_own e).is_open ≡ true → Suits s.echelons e v
-    own_suits zero h =
-        let none = unreached v h in
-        record { byte_fits = omega arith; decided_is_read = λ l. omega arith; read_is_decided = λ l. omega arith; from_the_start = omega arith }
+    own_suits zero h = grind arith
     own_suits (suc m) h =
         let o : Options = options_of s b limits kept (suc i) in
         let opens : (route suc o (suc s.echelons - suc m) (suc m) v).is_open ≡ true = sym (ap (λ (x : Amount). x.is_open) (own_reached m)) ∙ h in

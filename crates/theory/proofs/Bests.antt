@@ -1,6 +1,6 @@
 -- The best way on from a place is open at its cost, and no byte comes before it.
 use Rattle.std.proofs.Common.{◌≡◌, ℕ, zero, suc, ◌+◌, ◌-◌, ◌*◌, ◌<◌, ◌≤◌, Bool, true, false, ◌⊎◌, length, sym, refl, ap, ◌∙◌, subst, ap₂, subst₂, inl, inr, ⊎_elim, arith, length-append}
-use Rattle.std.proofs.lemmas.Bool.{and_parts, cond_both}
+use Rattle.std.proofs.lemmas.Bool.{cond_both}
 use Rattle.costs.specs.Postings.{most}
 use Rattle.costs.specs.Kinds.{Adding, Laws}
 use Rattle.theory.specs.Amounts.{Amount, nothing, closed, both, Fits, value, precedes}
@@ -9,7 +9,7 @@ use Rattle.theory.specs.Options.{Options, posted, repaired_at, route}
 use Rattle.theory.specs.Choices.{Choice, better, discarded, repaired, moved, best}
 use Rattle.theory.proofs.Precedence.{pass, itself, turned, known}
 use Rattle.theory.proofs.Keeping.{keeps_plain}
-use Rattle.theory.proofs.Routes.{discard_repairs_nowhere, repair_repairs_here, both_assoc, both_nothing, posted_length, route_discard, route_repair, route_move, route_ways, route_length, route_open}
+use Rattle.theory.proofs.Routes.{discard_repairs_nowhere, repair_repairs_here, both_assoc, both_nothing, posted_length, route_discard, route_repair, route_move, route_ways, route_length}
 
 -- ---- the better of two choices
 module _ {C : Type 0} (k : Adding C) (lower : C → C → Bool) (rank : ℕ → ℕ) where
@@ -59,7 +59,7 @@ module _ {C : Type 0} (k : Adding C) (lower : C → C → Bool) (rank : ℕ → 
     posts_fit left e b l = omega (arith, length-append (route w.up o left e b).row (under (repaired_at b)).row, route_length w.up o left e b, room (repaired_at b))
 
     posts_open : (left e b : ℕ) → (posts left e b).is_open ≡ true → 0 < length (posts left e b).row
-    posts_open left e b h = omega (arith, length-append (route w.up o left e b).row (under (repaired_at b)).row, route_open w.up o left e b (and_parts _ _ h).0)
+    posts_open left e b h = grind arith
 
     -- no byte comes before the best way on
     pub best_first : (left e : ℕ) → w.above e ≡ left → (0 < left → 0 < e) → left ≤ longest → (b : ℕ) → precedes lower (value k (posts left e b)) (rank b) (value k (best k lower rank w.up o under left e).sum) (rank (best k lower rank w.up o under left e).byte) ≡ false

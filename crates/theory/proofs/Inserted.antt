@@ -1,5 +1,6 @@
 -- What is put onto a component's sums stands somewhere in the total, and so it may as well stand at the end.
 use Rattle.std.proofs.Common.{◌≡◌, ℕ, zero, suc, ◌+◌, ◌<◌, ◌≤◌, Bool, cond, ◌&&◌, List, [], ◌++◌, length, Some, None, sym, refl, ap, ◌∙◌, subst, subst₂, inl, inr, append_assoc, append-nil, arith, length-append}
+use Rattle.std.proofs.lemmas.Grind.{common_steps}
 use Rattle.std.proofs.Math.Bool.{and_assoc, and_comm}
 use Rattle.std.proofs.lemmas.Bool.{eq-eqb, ne_eqb, cases_eq}
 use Rattle.costs.specs.Postings.{most}
@@ -83,8 +84,4 @@ inserted_value {k = k} laws a w b s h =
     ap (λ g. cond g (Some (sum k b.row)) None) s.opens ∙ ap (λ c. cond (a.is_open && w.is_open) (Some c) None) rows
 
 pub inserted_length : (a w b : Amount) → Inserted a w b → length b.row ≡ length a.row + length w.row
-inserted_length a w b s =
-    let la = ap length s.without ∙ length-append s.fore s.aft in
-    let lb = ap length s.with_it ∙ length-append s.fore (w.row ++ s.aft) in
-    let lw = length-append w.row s.aft in
-    omega arith
+inserted_length a w b s = grind (arith, common_steps)

@@ -71,4 +71,4 @@ module _ (shut : ℕ → Bool) (m : ℕ) where
 
   -- the table under the marks is as sound
   pub marked_sound : (g : Table) (u : ℕ → Needs) → Sound g → Sound (marked g u m shut)
-  marked_sound g u t = record { few = t.few; rising = t.rising; after_parent = t.after_parent; starts = t.starts; ranks = t.ranks }
+  marked_sound g u t = grind arith

@@ -29,10 +29,6 @@ pub posted_length : (x : Option Entry) → length (posted x).row ≤ 1
 posted_length None = omega arith
 posted_length (Some p) = omega arith
 
-pub posted_open : (x : Option Entry) → (posted x).is_open ≡ true → 0 < length (posted x).row
-posted_open None e = absurd (false≢true e)
-posted_open (Some p) e = omega arith
-
 -- ---- routes
 -- what holds of each of the three ways on from place e with byte b holds of the one that b takes
 pub ways_on :
@@ -69,12 +65,7 @@ module _ (up : ℕ → ℕ) (o : Options) where
 
   -- an open route has a posting
   pub route_open : (left e b : ℕ) → (route up o left e b).is_open ≡ true → 0 < length (route up o left e b).row
-  route_open zero e b = λ h. absurd (false≢true h)
-  route_open (suc left) e b =
-      route_ways left e b (λ a. a.is_open ≡ true → 0 < length a.row)
-      (λ _. posted_open (o.discard e))
-      (λ _. posted_open (o.repair e))
-      (λ _ _ h. omega (arith, posted_open (o.move e) (and_parts _ _ h).0, length-append (posted (o.move e)).row (route up o left (up e) b).row))
+  route_open left e b = grind arith
 
 -- an open route ends at a place
 pub route_byte : (w : Places) → Rising w → (o : Options) (left e b : ℕ) → w.above e ≡ left → (route w.up o left e b).is_open ≡ true → b ≤ 2 * w.last

@@ -4,9 +4,9 @@
 -- down, each from that of the next place up; the byte is the note; and the amount is added to the sums of its parent, which
 -- then are those of `sums_at (i - 1)`. At the end the sum of the whole is the walk's cost, and the bytes are read off the
 -- notes from the first component to the last.
-use Rattle.std.proofs.Common.{◌≡◌, ℕ, zero, suc, ◌+◌, ◌-◌, ◌*◌, ◌<◌, ◌≤◌, Bool, eqb, length, sym, refl, ap, ◌∙◌, subst, ⊎_elim, arith, length-append}
+use Rattle.std.proofs.Common.{◌≡◌, ℕ, zero, suc, ◌+◌, ◌-◌, ◌*◌, ◌<◌, ◌≤◌, Bool, length, sym, refl, ap, ◌∙◌, subst, ⊎_elim, arith, length-append}
 use mathlib.Core.Path.{fun_ext}
-use Rattle.std.proofs.lemmas.Bool.{ne_eqb, cases_eq, cond-false}
+use Rattle.std.proofs.lemmas.Bool.{cases_eq}
 use Rattle.costs.specs.Kinds.{Adding, Laws}
 use Rattle.theory.specs.Amounts.{Amount, nothing, both, value}
 use Rattle.theory.specs.Options.{Options, posted}
@@ -46,7 +46,7 @@ module _ {C : Type 0} (k : Adding C) (lower : C → C → Bool) where
 
   -- what is chosen at a place is the best way on from there
   chosen_at_place : (g : Table) (i : ℕ) (under : ℕ → Amount) (e : ℕ) → 0 < e → chosen k lower g i under e ≡ best_from k lower g i under e
-  chosen_at_place g i under e l = cond-false (eqb e 0) _ (best_from k lower g i under e) (ne_eqb e 0 (λ z. omega arith))
+  chosen_at_place g i under e l = grind arith
 
   module _ (g : Table) (ok : Sound g) where
     -- ---- the sums
@@ -90,7 +90,7 @@ module _ {C : Type 0} (k : Adding C) (lower : C → C → Bool) where
     -- ---- the notes
     pub note_at_place : (i e : ℕ) → 0 < e → notes k lower g i e ≡ (best_from k lower g i (sums_at k lower g i i) e).byte
     unfolding notes
-    note_at_place i e l = ap (λ c. c.byte) (chosen_at_place g i (sums_at k lower g i i) e l)
+    note_at_place i e l = grind arith
 
     -- a component that is not reached has byte 0
     pub note_unreached : (i : ℕ) → notes k lower g i 0 ≡ 0

@@ -1,6 +1,6 @@
 -- A sound table is a regular breakdown of few postings.
 use Rattle.std.proofs.Common.{◌≡◌, ℕ, zero, suc, ◌*◌, ◌<◌, ◌≤◌, Bool, true, false, cond, eqb, ◌⊎◌, length, sym, refl, ◌∙◌, subst, inl, inr, ⊎_elim, arith, length-append}
-use Rattle.std.proofs.lemmas.Bool.{eq-eqb, ne_eqb, eqb-true, eqb-false, cases_eq, false≢true, and_parts, cond-true, cond-false, cond_both}
+use Rattle.std.proofs.lemmas.Bool.{eqb-true, eqb-false, cases_eq, and_parts, cond_both}
 use Rattle.theory.specs.Amounts.{Amount, nothing, closed}
 use Rattle.theory.specs.Places.{longest}
 use Rattle.theory.specs.Options.{route}
@@ -11,15 +11,15 @@ use Rattle.theory.proofs.Totals.{Regular, Bounded, total_is_spent}
 
 -- not reached: nothing is posted, and only byte 0 is open
 pub unreached : (b : ℕ) → (cond (eqb b 0) nothing closed).is_open ≡ true → b ≡ 0
-unreached b = cond_both (eqb b 0) nothing closed (λ a. a.is_open ≡ true → b ≡ 0) (λ e _. eqb-true b 0 e) (λ _ e. absurd (false≢true e))
+unreached b = grind arith
 
 module _ (g : Table) where
   -- a top component starts at its first place, any other where its parent is repaired
   pub enter_top : (i e : ℕ) → g.parent i ≡ 0 → enter g i e ≡ g.first i
-  enter_top i e h = cond-true (eqb (g.parent i) 0) (g.first i) e (eq-eqb (g.parent i) 0 h)
+  enter_top i e h = grind arith
 
   pub enter_under : (i e : ℕ) → (g.parent i ≡ 0 → ⊥) → enter g i e ≡ e
-  enter_under i e h = cond-false (eqb (g.parent i) 0) (g.first i) e (ne_eqb (g.parent i) 0 h)
+  enter_under i e h = grind arith
 
   -- what holds of a component that is not reached, and of one that goes its route, holds of what it posts
   own_either :
@@ -75,9 +75,7 @@ module _ (g : Table) (ok : Sound g) where
       (cases_eq i n)
 
   own_some : (i s b : ℕ) → 0 < s → (own g i s b).is_open ≡ true → 0 < length (own g i s b).row
-  own_some i s b h = own_either g i s b (λ a. a.is_open ≡ true → 0 < length a.row)
-      (λ e _. absurd (omega arith))
-      (λ _. route_open g.places.up (g.options i) (g.places.above s) s b)
+  own_some i s b h = grind arith
 
   -- the first component is a top component, so bytes that are open post something
   pub open_posts : (a : ℕ → ℕ) (n : ℕ) → 0 < n → (spent (breakdown g) n a).is_open ≡ true → 0 < length (spent (breakdown g) n a).row
