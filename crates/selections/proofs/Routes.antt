@@ -31,11 +31,7 @@ pub record Route (s : Model) (x : Selection) (i a f : ℕ) : Type 0 where
   pub none_before : (e : ℕ) (o : RepairOption) → Selected x i e o → a ≤ e
   pub none_after : (e : ℕ) (o : RepairOption) → Selected x i e o → e ≤ f
 
--- two options that are selected where exactly one is are the same
-pub one_only : {x : Selection} {i e : ℕ} → ExactlyOne x i e → (o p : RepairOption) → Selected x i e o → Selected x i e p → o ≡ p
-one_only one o p h k = one.no_other o h ∙ sym (one.no_other p k)
-
--- so where another than move is, none is moved
+-- where another option than move is selected, and exactly one is, none is moved
 not_moved_by : {x : Selection} {i e : ℕ} → ExactlyOne x i e → (o : RepairOption) → (letter o ≡ letter Move → ⊥) → Selected x i e o → Selected x i e Move → ⊥
 not_moved_by one o differ h k = grind arith
 

@@ -10,9 +10,7 @@ use Rattle.theory.specs.Problems.{Problem, plans, costs, no_plan, plan_if}
 use Rattle.theory.specs.Searches.{Best, Found}
 use Rattle.theory.proofs.Solves.{found_solves}
 use Rattle.solutions.specs.Problems.{problem}
-use Rattle.solutions.specs.Promises.{Ready}
-use Rattle.solutions.specs.Solved.{bytes, least_plan, answered, solved}
-use Rattle.solutions.proofs.Answering.{ready_answers}
+use Rattle.solutions.specs.Solved.{bytes, least_plan}
 use Rattle.solutions.proofs.Bytes.{bytes_in_order}
 use Rattle.solutions.proofs.Least.{plan_at, with_cost, least_is_named}
 use Rattle.solutions.proofs.Proper.{problem_proper}
@@ -39,7 +37,3 @@ module _ {C : Type 0} {k : Adding C} {lower : C → C → Bool} (laws : Laws k l
 
     pub found_plan : (c : C) → r.cost ≡ Some c → least_plan k lower s b ≡ Some (record { plan = r.plan; cost = c })
     found_plan c e = found_solved ∙ ap (λ o. plan_at o r.plan) e
-
-    -- so a solve that is ready answers what is found
-    pub found_answers : (room : ℕ) (place : List ℕ) → Ready s b room place → solved k lower s b room place ≡ answered s place (plan_at r.cost r.plan)
-    found_answers room place ready = ready_answers k lower s b room place ready ∙ ap (answered s place) found_solved

@@ -55,9 +55,6 @@ module _ {C : Type 0} (k : Adding C) (lower : C → C → Bool) (rank : ℕ → 
       better_either k lower rank (Right (suc left) e) (better k lower rank (discarded o e) (repaired o under e)) (moved o e on) (better_either k lower rank (Right (suc left) e) (discarded o e) (repaired o under e) d r) m
 
   module _ (laws : Laws k lower) (room : (e : ℕ) → length (under e).row + longest ≤ most) where
-    posts_fit : (left e b : ℕ) → left ≤ longest → Fits (posts left e b)
-    posts_fit left e b l = omega (arith, length-append (route w.up o left e b).row (under (repaired_at b)).row, route_length w.up o left e b, room (repaired_at b))
-
     posts_open : (left e b : ℕ) → (posts left e b).is_open ≡ true → 0 < length (posts left e b).row
     posts_open left e b h = grind arith
 
