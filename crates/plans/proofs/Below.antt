@@ -1,7 +1,6 @@
 -- Tests and first finds over the numbers below n.
-use Rattle.std.proofs.Common.{◌≡◌, ℕ, zero, suc, ◌<◌, Bool, true, Some, None, Option, sym, refl, ap, ◌∙◌, inl, inr, arith}
+use Rattle.std.proofs.Common.{◌≡◌, ℕ, zero, suc, ◌<◌, Bool, true, None, Option, sym, refl, ap, ◌∙◌, inl, inr, arith}
 use Rattle.std.proofs.lemmas.Bool.{cases_eq, or_left, or_right, or_cases, false≢true}
-use Rattle.std.proofs.lemmas.Option.{none-some}
 use Rattle.plans.specs.Ranges.{some_below, or_else, first_below}
 
 -- some number below n passes
@@ -24,8 +23,7 @@ module _ (f : ℕ → Bool) where
 
 -- none is the first of two where neither is
 neither : {A : Type 0} (x y : Option A) → or_else x y ≡ None → (x ≡ None) × (y ≡ None)
-neither None y h = (refl, h)
-neither (Some a) y h = absurd (none-some a (sym h))
+neither x y h = grind arith
 
 -- no number below n gives anything where the first is none
 module _ {A : Type 0} (f : ℕ → Option A) where

@@ -1,6 +1,6 @@
 -- A plan of at least one component has a cost, since it posts something.
 use Rattle.std.proofs.Common.{◌≡◌, ℕ, ◌≤◌, true, List, [], ◌∷◌, Some, None, Option, refl, ap, ◌∙◌, inl, inr, arith}
-use Rattle.std.proofs.lemmas.Bool.{ltb-true, false≢true}
+use Rattle.std.proofs.lemmas.Bool.{false≢true}
 use Rattle.costs.specs.declared.posting.Posting.{Posting}
 use Rattle.costs.specs.Kinds.{Adding}
 use Rattle.model.specs.declared.answer.Answer.{Answer}
@@ -52,8 +52,7 @@ module _ {C : Type 0} (k : Adding C) where
 
 -- component 0 is a top component
 no_parent_at_first : (o : Option ℕ) → is_entered 0 o ≡ true → o ≡ None
-no_parent_at_first None h = refl
-no_parent_at_first (Some p) h = absurd (omega (arith, ltb-true p 0 h))
+no_parent_at_first o h = grind arith
 
 -- a reached component is discarded or repaired
 uses_something : {s : Model} {plan : List ℕ} {i a : ℕ} → Starts s plan i a → (e : ℕ) × (o : RepairOption) × Uses s plan i e o

@@ -1,5 +1,5 @@
 -- Every posting is within its limits.
-use Rattle.std.proofs.Common.{ℕ, suc, ◌*◌, ◌≤◌, List, [], ◌∷◌, ℤ, pos, negsuc, ◌*ℤ◌, neg_ℤ, ◌≤ℤ◌, Some, None, Option, arith}
+use Rattle.std.proofs.Common.{ℕ, ◌*◌, ◌≤◌, List, [], ◌∷◌, ℤ, pos, ◌*ℤ◌, neg_ℤ, ◌≤ℤ◌, Some, None, Option, arith}
 use Rattle.std.specs.List.{AllByRecursion}
 use Rattle.std.proofs.lemmas.Grind.{common_steps}
 use Rattle.std.proofs.lemmas.Nat.{mul-le}
@@ -7,7 +7,6 @@ use Rattle.std.proofs.lemmas.Int.{ints}
 use Rattle.costs.specs.declared.posting.Posting.{Posting}
 use Rattle.costs.specs.Postings.{Within}
 use Rattle.model.specs.declared.answer.Answer.{Answer}
-use Rattle.model.specs.declared.answer.Answer.TheVariants.{Charged, Barred, Faulty}
 use Rattle.model.specs.declared.answer.Charge.{Charge}
 use Rattle.model.specs.declared.question.Question.{Question}
 use Rattle.model.specs.declared.question.Question.TheVariants.{OfOption, OfResource}
@@ -18,14 +17,7 @@ use Rattle.plans.specs.Postings.{component, posted, posting_of, posting, add_pos
 
 -- an amount of at most c above or below zero, taken n times, where n is at most m
 pub taken : (n m c : ℕ) (z : ℤ) → n ≤ m → neg_ℤ (pos c) ≤ℤ z → z ≤ℤ pos c → (neg_ℤ (pos (m * c)) ≤ℤ (pos n *ℤ z)) × ((pos n *ℤ z) ≤ℤ pos (m * c))
-taken n m c (pos a) h low high =
-    let few : a ≤ c = omega (arith, ints) in
-    let p = mul-le n a m c h few in
-    (omega (arith, ints), omega (arith, ints))
-taken n m c (negsuc a) h low high =
-    let few : suc a ≤ c = omega (arith, ints) in
-    let p = mul-le n (suc a) m c h few in
-    (omega (arith, ints), omega (arith, ints))
+taken n m c z h low high = grind (arith, common_steps)
 
 -- a component fails at most 1,000,000 times in a thousand years
 few_failures : (s : Model) (i : ℕ) → Limits s → (component s i).rate ≤ 1_000_000
@@ -49,22 +41,17 @@ WithinIf None = Unit {0}
 WithinIf (Some p) = Within p
 
 option_answer : (n i e : ℕ) (o : RepairOption) (a : Answer) → n ≤ 1_000_000 → InLimits (OfOption i e o) a → WithinIf (posting_of n a)
-option_answer n i e o (Charged c) h l = option_within n c h l
-option_answer n i e o Barred h l = tt
-option_answer n i e o (Faulty f) h l = tt
+option_answer n i e o a h l = grind (arith, common_steps)
 
 resource_answer : (r e : ℕ) (a : Answer) → InLimits (OfResource r e) a → WithinIf (posting_of 1000 a)
-resource_answer r e (Charged c) l = resource_within c l
-resource_answer r e Barred l = tt
-resource_answer r e (Faulty f) l = tt
+resource_answer r e a l = grind arith
 
 pub posting_within : (s : Model) (b : Book) → Limits s → KeepsLimits b → (q : Question) → WithinIf (posting s b q)
 posting_within s b l k (OfOption i e o) = option_answer (component s i).rate i e o (b (OfOption i e o)) (few_failures s i l) (k (OfOption i e o))
 posting_within s b l k (OfResource r e) = resource_answer r e (b (OfResource r e)) (k (OfResource r e))
 
 within_more : (p : Option Posting) (ps : List Posting) → WithinIf p → AllByRecursion Within ps → AllByRecursion Within (add_posting p ps)
-within_more None ps w all = all
-within_more (Some p) ps w all = (w, all)
+within_more p ps w all = grind arith
 
 pub postings_within : (s : Model) (b : Book) → Limits s → KeepsLimits b → (qs : List Question) → AllByRecursion Within (postings_for s b qs)
 postings_within s b l k [] = tt

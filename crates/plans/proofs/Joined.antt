@@ -1,5 +1,6 @@
 -- Two lists joined: what passes, what is posted and what it sums to, part by part.
-use Rattle.std.proofs.Common.{◌≡◌, Bool, List, ◌++◌, Some, None, Option, refl, ap, ◌∙◌}
+use Rattle.std.proofs.Common.{arith}
+use Rattle.std.proofs.Common.{◌≡◌, Bool, List, ◌++◌, Option, ap, ◌∙◌}
 use Rattle.std.proofs.lemmas.List.Elements.{filter-append, filter_map-append}
 use Rattle.std.proofs.lemmas.List.Sums.{fold-append}
 use Rattle.costs.specs.declared.posting.Posting.{Posting}
@@ -11,8 +12,7 @@ use Rattle.plans.specs.Ranges.{those}
 use Rattle.plans.specs.Postings.{posting, add_posting, postings_for, plus_posting, plus_postings}
 
 pub posting_front : (p : Option Posting) (ps qs : List Posting) → add_posting p (ps ++ qs) ≡ add_posting p ps ++ qs
-posting_front None ps qs = refl
-posting_front (Some p) ps qs = refl
+posting_front p ps qs = grind arith
 
 -- the postings of those questions that pass
 abbrev pub posted_of : Model → Book → (Question → Bool) → List Question → List Posting

@@ -11,8 +11,7 @@ among_none m = elim m [ ]
 
 -- one that stands in a list is its first, or stands in the rest
 pub among_first : {q x : Question} {xs : List Question} → Among q (x ∷ xs) → (q ≡ x) ⊎ Among q xs
-among_first (here qs) = inl refl
-among_first (later p qs m) = inr m
+among_first m = grind arith
 
 -- one that is neither does not stand there
 pub among_neither : {q x : Question} {xs : List Question} → (q ≡ x → ⊥) → (Among q xs → ⊥) → Among q (x ∷ xs) → ⊥

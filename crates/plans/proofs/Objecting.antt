@@ -1,8 +1,7 @@
 -- What it says of a component that it meets no objection.
-use Rattle.std.proofs.Common.{◌≡◌, ℕ, ◌*◌, ◌≤◌, Bool, true, false, leb, List, None, Option, sym, refl, arith}
+use Rattle.std.proofs.Common.{◌≡◌, ℕ, ◌*◌, ◌≤◌, Bool, true, leb, List, None, Option, refl, arith}
 use Rattle.std.proofs.lemmas.Bool.{leb-true, le-leb}
 use Rattle.std.proofs.lemmas.Bool.Decides.{nat_tests}
-use Rattle.std.proofs.lemmas.Option.{none-some}
 use Rattle.model.specs.declared.question.Question.{Question}
 use Rattle.model.specs.declared.refusal.Refusal.{Refusal}
 use Rattle.model.specs.declared.refusal.Refusal.TheVariants.{ByteTooLarge, ReachMismatch, BeforeStart, OptionClosed, ResourceClosed}
@@ -27,8 +26,7 @@ pub record Passes (s : Model) (b : Book) (plan : List ℕ) (i : ℕ) : Type 0 wh
 
 -- there is no objection where the test passes and the rest has none
 passed : (test : Bool) (why : Refusal) (rest : Option Refusal) → object test why rest ≡ None → (test ≡ true) × (rest ≡ None)
-passed true why rest h = (refl, h)
-passed false why rest h = absurd (none-some why (sym h))
+passed test why rest h = grind arith
 
 unobjected : (test : Bool) (why : Refusal) (rest : Option Refusal) → test ≡ true → rest ≡ None → object test why rest ≡ None
 unobjected test why rest t h = cc
@@ -45,8 +43,7 @@ opened : (b : Book) (used : Bool) (q : Question) → open_if b used q ≡ true �
 opened b used q h u = cc
 
 opens : (b : Book) (used : Bool) (q : Question) → (used ≡ true → is_open b q ≡ true) → open_if b used q ≡ true
-opens b true q h = h refl
-opens b false q h = refl
+opens b used q h = grind arith
 
 module _ (b : Book) (used : Question → Bool) (qs : List Question) where
   all_opened : every (λ q. open_if b (used q) q) qs ≡ true → (q : Question) → Among q qs → used q ≡ true → is_open b q ≡ true

@@ -1,5 +1,6 @@
 -- Pricing accepts exactly the plans.
-use Rattle.std.proofs.Common.{◌≡◌, ℕ, ◌≤◌, leb, List, length, take, Some, None, Ok, Option, Result, sym, refl, ap, ◌∙◌}
+use Rattle.std.proofs.Common.{arith}
+use Rattle.std.proofs.Common.{◌≡◌, ℕ, ◌≤◌, leb, List, length, take, Some, None, Ok, Option, Result, sym, ap, ◌∙◌}
 use Rattle.std.proofs.lemmas.List.{length-take-le}
 use Rattle.std.proofs.lemmas.Bool.{le-leb, cond-true}
 use Rattle.costs.specs.Kinds.{Adding}
@@ -18,12 +19,10 @@ use Rattle.plans.proofs.Costing.{plan_has_cost}
 
 -- an answer is a cost where there is no refusal before it
 not_refused : {C : Type 0} (why : Option Refusal) (rest : Result C Refusal) (c : C) → or_refuse why rest ≡ Ok c → (why ≡ None) × (rest ≡ Ok c)
-not_refused None rest c h = (refl, h)
-not_refused (Some w) rest c h = absurd cc
+not_refused why rest c h = grind arith
 
 has_cost : {C : Type 0} (sum : Option C) (c : C) → cost_or_refuse sum ≡ Ok c → sum ≡ Some c
-has_cost None c h = cc
-has_cost (Some d) c h = cc
+has_cost sum c h = grind arith
 
 module _ {C : Type 0} (k : Adding C) (s : Model) (b : Book) where
   -- where the study and the survey are in order, the components alone decide

@@ -28,9 +28,7 @@ Compared xs ys = Before xs ys ⊎ ((xs ≡ ys) ⊎ Before ys xs)
 
 -- behind the same byte two plans compare as they do without it
 behind : (x y : ℕ) (xs ys : List ℕ) → x ≡ y → Compared xs ys → Compared (x ∷ xs) (y ∷ ys)
-behind x y xs ys e (inl h) = inl (inr (e, h))
-behind x y xs ys e (inr (inl h)) = inr (inl cc)
-behind x y xs ys e (inr (inr h)) = inr (inr (inr (sym e, h)))
+behind x y xs ys e h = grind arith
 
 total : (xs ys : List ℕ) → length xs ≡ length ys → Compared xs ys
 total [] [] l = inr (inl refl)

@@ -1,6 +1,6 @@
 -- The tests of use and need say what the relations say.
 use Rattle.std.proofs.Common.{◌≡◌, ℕ, ◌<◌, Bool, true, ◌&&◌, ◌||◌, leb, List, inl, inr, ⊎_elim, arith}
-use Rattle.std.proofs.lemmas.Bool.{leb-true, le-leb, ltb-true, lt-ltb, eqb-true, eq-eqb, and_parts, and_from, or_left, or_right, or_cases}
+use Rattle.std.proofs.lemmas.Bool.{leb-true, le-leb, ltb-true, lt-ltb, eqb-true, eq-eqb, and_parts, and_from, or_cases}
 use Rattle.model.specs.declared.question.RepairOption.{RepairOption}
 use Rattle.model.specs.declared.question.RepairOption.TheVariants.{Discard, Repair, Move}
 use Rattle.model.specs.Studies.{Model}
@@ -47,9 +47,7 @@ module _ (s : Model) (plan : List ℕ) (i : ℕ) (reads : ReadsStart s plan i) w
 -- one of the three options passes
 module _ (f : RepairOption → Bool) where
   some_option : (o : RepairOption) → f o ≡ true → (f Discard || (f Repair || f Move)) ≡ true
-  some_option Discard h = or_left (f Discard) _ h
-  some_option Repair h = or_right (f Discard) _ (or_left (f Repair) _ h)
-  some_option Move h = or_right (f Discard) _ (or_right (f Repair) _ h)
+  some_option o h = grind arith
 
   which_option : (f Discard || (f Repair || f Move)) ≡ true → (o : RepairOption) × (f o ≡ true)
   which_option h =

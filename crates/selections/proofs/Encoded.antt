@@ -47,17 +47,7 @@ module _ (s : Model) (x : Selection) (i a f b : ℕ) (route : Route s x i a f) (
       ]
 
   tells_selected : (e : ℕ) (o : RepairOption) → a ≤ e → Tells b e o → Selected x i e o
-  tells_selected e Discard l t =
-      elim says [
-        | inl d ↦ let same : f ≡ e = omega (arith, d.0) in subst (λ j. Selected x i j Discard) same d.1
-        | inr r ↦ absurd (omega (arith, r.0))
-      ]
-  tells_selected e Repair l t =
-      elim says [
-        | inl d ↦ absurd (omega (arith, d.0))
-        | inr r ↦ let same : f ≡ e = omega (arith, r.0) in subst (λ j. Selected x i j Repair) same r.1
-      ]
-  tells_selected e Move l t = route.climb.moved_before e l (omega (arith, says_final))
+  tells_selected e o l t = grind arith
 
 -- what the byte of a started component tells of is used
 tells_used : {s : Model} {plan : List ℕ} {i a : ℕ} → Starts s plan i a → (e : ℕ) (o : RepairOption) → a ≤ e → Tells (byte plan i) e o → Uses s plan i e o

@@ -1,10 +1,9 @@
 -- A selection that is given by a list, and a plan that describes it.
-use Rattle.std.proofs.Common.{◌≡◌, ℕ, Bool, true, not, ◌&&◌, ◌||◌, eqb, List, [], ◌∷◌, refl, inl, inr, ⊎_elim, arith}
+use Rattle.std.proofs.Common.{◌≡◌, ℕ, Bool, true, not, ◌&&◌, ◌||◌, eqb, List, [], ◌∷◌, inl, inr, ⊎_elim, arith}
 use Rattle.std.proofs.lemmas.Bool.{eqb-true, and_parts, or_cases, both_ways, not-true, false≢true}
 use Rattle.model.specs.declared.question.Question.{Question}
 use Rattle.model.specs.declared.question.Question.TheVariants.{OfOption}
 use Rattle.model.specs.declared.question.RepairOption.{RepairOption}
-use Rattle.model.specs.declared.question.RepairOption.TheVariants.{Discard, Repair, Move}
 use Rattle.model.specs.Books.{Book}
 use Rattle.model.specs.Letters.{letter}
 use Rattle.model.specs.Studies.{Model, Limits}
@@ -24,15 +23,7 @@ use Rattle.selections.proofs.Chosen.{chosen, chosen_described}
 
 -- options with one letter are the same
 one_letter : (o p : RepairOption) → letter o ≡ letter p → o ≡ p
-one_letter Discard Discard h = refl
-one_letter Discard Repair h = absurd (omega arith)
-one_letter Discard Move h = absurd (omega arith)
-one_letter Repair Discard h = absurd (omega arith)
-one_letter Repair Repair h = refl
-one_letter Repair Move h = absurd (omega arith)
-one_letter Move Discard h = absurd (omega arith)
-one_letter Move Repair h = absurd (omega arith)
-one_letter Move Move h = refl
+one_letter o p h = grind arith
 
 -- where every choice of a list passes a test, all that it selects does
 listed_passes :

@@ -1,5 +1,5 @@
 -- What an option that a plan uses tells of the component's byte.
-use Rattle.std.proofs.Common.{◌≡◌, ℕ, ◌+◌, ◌*◌, ◌<◌, List, refl, arith}
+use Rattle.std.proofs.Common.{◌≡◌, ℕ, ◌+◌, ◌*◌, ◌<◌, List, arith}
 use Rattle.model.specs.declared.question.RepairOption.{RepairOption}
 use Rattle.model.specs.declared.question.RepairOption.TheVariants.{Discard, Repair, Move}
 use Rattle.model.specs.Studies.{Model}
@@ -19,12 +19,4 @@ used_tells (moves i a e r l h) = h
 
 -- the byte tells of one option at an echelon
 pub tells_one : (b e : ℕ) (o p : RepairOption) → Tells b e o → Tells b e p → o ≡ p
-tells_one b e Discard Discard h k = refl
-tells_one b e Discard Repair h k = absurd (omega arith)
-tells_one b e Discard Move h k = absurd (omega arith)
-tells_one b e Repair Discard h k = absurd (omega arith)
-tells_one b e Repair Repair h k = refl
-tells_one b e Repair Move h k = absurd (omega arith)
-tells_one b e Move Discard h k = absurd (omega arith)
-tells_one b e Move Repair h k = absurd (omega arith)
-tells_one b e Move Move h k = refl
+tells_one b e o p h k = grind arith

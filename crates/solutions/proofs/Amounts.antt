@@ -1,17 +1,16 @@
 -- The questions that pass a test as an amount of the solver's argument: open where each is open, and the row of their postings.
-use Rattle.std.proofs.Common.{◌≡◌, ℕ, zero, suc, ◌<◌, Bool, true, false, cond, List, [], ◌∷◌, ◌++◌, map, length, Some, None, Option, sym, refl, ap, ◌∙◌, ap₂, arith}
+use Rattle.std.proofs.Common.{◌≡◌, ℕ, zero, suc, ◌<◌, Bool, true, cond, List, [], ◌∷◌, ◌++◌, map, length, Some, Option, sym, refl, ap, ◌∙◌, ap₂, arith}
 use Rattle.std.proofs.lemmas.List.{map-append}
-use Rattle.std.proofs.lemmas.Bool.{and_parts, and_from, false≢true}
+use Rattle.std.proofs.lemmas.Bool.{and_parts, and_from}
 use Rattle.costs.specs.declared.posting.Posting.{Posting}
 use Rattle.costs.specs.Kinds.{Adding}
 use Rattle.model.specs.declared.answer.Answer.{Answer}
-use Rattle.model.specs.declared.answer.Answer.TheVariants.{Charged, Barred, Faulty}
 use Rattle.model.specs.declared.question.Question.{Question}
 use Rattle.model.specs.Books.{Book, KeepsLimits}
 use Rattle.model.specs.Studies.{Model, Limits}
 use Rattle.plans.specs.Ranges.{upto, those}
 use Rattle.plans.specs.Questions.{is_charge, is_open}
-use Rattle.plans.specs.Postings.{times, posting_of, posting, add_posting, postings_for, plus_postings, summed}
+use Rattle.plans.specs.Postings.{times, posting_of, add_posting, postings_for, plus_postings, summed}
 use Rattle.plans.specs.Laws.{Among, here, later}
 use Rattle.plans.proofs.Fitting.{WithinIf, posting_within}
 use Rattle.plans.proofs.Joined.{posted_of}
@@ -38,13 +37,10 @@ module _ {C : Type 0} (k : Adding C) where
 
 -- ---- the amount of a posting
 opened : (n : ℕ) (a : Answer) (w : WithinIf (posting_of n a)) → (posted (with_proof (posting_of n a) w)).is_open ≡ is_charge a
-opened n (Charged c) w = refl
-opened n Barred w = refl
-opened n (Faulty f) w = refl
+opened n a w = grind arith
 
 plain_posted : (o : Option Posting) (w : WithinIf o) (ps : List Posting) → plain (posted (with_proof o w)).row ++ ps ≡ add_posting o ps
-plain_posted None w ps = refl
-plain_posted (Some p) w ps = refl
+plain_posted o w ps = grind arith
 
 module _ (s : Model) (b : Book) (limits : Limits s) (kept : KeepsLimits b) where
   -- the amount of one question that passes or does not
@@ -76,12 +72,10 @@ module _ (s : Model) (b : Book) (limits : Limits s) (kept : KeepsLimits b) where
 
     -- it is open where each that passes is
     asked_open : (test : Bool) (q : Question) → (asked test q).is_open ≡ true → test ≡ true → is_open b q ≡ true
-    asked_open true q h t = sym (entry_open q) ∙ h
-    asked_open false q h t = absurd (false≢true t)
+    asked_open test q h t = grind arith
 
     open_asked : (test : Bool) (q : Question) → (test ≡ true → is_open b q ≡ true) → (asked test q).is_open ≡ true
-    open_asked true q h = entry_open q ∙ h refl
-    open_asked false q h = refl
+    open_asked test q h = grind arith
 
     pub amount_open : {q : Question} {qs : List Question} → (amount_of f qs).is_open ≡ true → Among q qs → f q ≡ true → is_open b q ≡ true
     amount_open {q} h (here qs) = asked_open (f q) q (and_parts (asked (f q) q).is_open (amount_of f qs).is_open h).0
@@ -93,8 +87,7 @@ module _ (s : Model) (b : Book) (limits : Limits s) (kept : KeepsLimits b) where
 
     -- and its row is what those questions post
     asked_plain : (test : Bool) (q : Question) (qs : List Question) → plain (asked test q).row ++ postings_for s b qs ≡ postings_for s b (cond test (q ∷ qs) qs)
-    asked_plain true q qs = plain_posted (posting s b q) (posting_within s b limits kept q) (postings_for s b qs)
-    asked_plain false q qs = refl
+    asked_plain test q qs = grind arith
 
     pub amount_plain : (qs : List Question) → plain (amount_of f qs).row ≡ posted_of s b f qs
     amount_plain [] = refl

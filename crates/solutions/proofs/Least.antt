@@ -1,5 +1,6 @@
 -- The least plan by the definition in the words of plans is what the definition of the solver's argument names.
-use Rattle.std.proofs.Common.{◌≡◌, ℕ, ◌*◌, ◌≤◌, Bool, true, false, cond, List, [], ◌∷◌, Some, None, Ok, Err, fold, Option, Result, sym, refl, ap, ◌∙◌}
+use Rattle.std.proofs.Common.{arith}
+use Rattle.std.proofs.Common.{◌≡◌, ℕ, ◌*◌, ◌≤◌, Bool, cond, List, [], ◌∷◌, Some, None, fold, Option, Result, sym, refl, ap, ◌∙◌}
 use Rattle.std.specs.Result.{result_ok}
 use Rattle.std.specs.List.{AllByRecursion}
 use Rattle.std.proofs.ByRecursion.{All-weaker}
@@ -36,24 +37,17 @@ module _ {C : Type 0} (k : Adding C) (lower : C → C → Bool) where
   keep_some best plan (Some c) = keep_cost lower best plan c
 
   by_cost : (best : Option (Priced C)) (plan : List ℕ) (r : Result C Refusal) → keep_if lower best plan r ≡ keep_some best plan (result_ok r)
-  by_cost best plan (Ok c) = refl
-  by_cost best plan (Err why) = refl
+  by_cost best plan r = grind arith
 
   -- and the two definitions keep the same of two plans
   same_of_two : (u w : Option C) (plan best : List ℕ) → keep_some (plan_at w best) plan u ≡ cond (is_lower lower u w) (plan_at u plan) (plan_at w best)
-  same_of_two None None plan best = refl
-  same_of_two None (Some d) plan best = refl
-  same_of_two (Some c) None plan best = refl
-  same_of_two (Some c) (Some d) plan best = refl
+  same_of_two u w plan best = grind arith
 
   same_kept : (f : List ℕ → Amount) (best : Option (List ℕ)) (u : Option C) (plan : List ℕ) → keep_some (with_cost k f best) plan u ≡ cond (is_lower lower u (value k (costs_of f best))) (plan_at u plan) (with_cost k f best)
-  same_kept f None None plan = refl
-  same_kept f None (Some c) plan = refl
-  same_kept f (Some best) u plan = same_of_two u (value k (f best)) plan best
+  same_kept f best u plan = grind arith
 
   cost_of_either : (f : List ℕ → Amount) (t : Bool) (plan : List ℕ) (best : Option (List ℕ)) → cond t (plan_at (value k (f plan)) plan) (with_cost k f best) ≡ with_cost k f (cond t (Some plan) best)
-  cost_of_either f true plan best = refl
-  cost_of_either f false plan best = refl
+  cost_of_either f t plan best = grind arith
 
   module _ (s : Model) (b : Book) (f : List ℕ → Amount) where
     keeps_alike : (best : Option (List ℕ)) (plan : List ℕ) → value k (f plan) ≡ result_ok (judged k s b plan) → keep k lower s b (with_cost k f best) plan ≡ with_cost k f (theory.keep k lower f best plan)

@@ -1,13 +1,13 @@
 -- The pairs of a resource and an echelon by number: the amount of those that are needed.
-use Rattle.std.proofs.Common.{◌≡◌, ℕ, zero, suc, ◌*◌, ◌<◌, Bool, true, false, cond, not, ◌&&◌, ◌||◌, List, [], ◌∷◌, ◌++◌, Some, None, Option, unwrap_or, sym, refl, ap, ◌∙◌, ap₂, arith}
-use Rattle.std.proofs.lemmas.Bool.{and_parts, false≢true}
+use Rattle.std.proofs.Common.{◌≡◌, ℕ, zero, suc, ◌*◌, ◌<◌, Bool, true, cond, not, ◌&&◌, ◌||◌, List, [], ◌∷◌, ◌++◌, Option, unwrap_or, sym, refl, ap, ◌∙◌, ap₂, arith}
+use Rattle.std.proofs.lemmas.Bool.{and_parts}
 use Rattle.model.specs.declared.question.Question.{Question}
 use Rattle.model.specs.declared.question.Question.TheVariants.{OfResource}
 use Rattle.model.specs.Books.{Book, KeepsLimits}
 use Rattle.model.specs.Studies.{Model, Limits}
 use Rattle.plans.specs.Ranges.{upto}
 use Rattle.plans.specs.Questions.{pair_questions, is_open}
-use Rattle.theory.specs.Entries.{Entry, blank}
+use Rattle.theory.specs.Entries.{Entry}
 use Rattle.theory.specs.Amounts.{Amount, both}
 use Rattle.theory.specs.Options.{posted}
 use Rattle.theory.specs.Marks.{blocked}
@@ -15,9 +15,9 @@ use Rattle.theory.specs.Problems.{Problem}
 use Rattle.theory.specs.Searches.{pair_postings}
 use Rattle.theory.proofs.Routes.{both_nothing}
 use Rattle.solutions.specs.Pairs.{pair_question}
-use Rattle.solutions.specs.Problems.{entry, problem}
+use Rattle.solutions.specs.Problems.{problem}
 use Rattle.solutions.proofs.Lists.{upto_rows}
-use Rattle.solutions.proofs.Amounts.{asked, amount_of, amount_append, entry_open}
+use Rattle.solutions.proofs.Amounts.{asked, amount_of, amount_append}
 
 -- the pairs below n, by number
 abbrev pub pairs_below : Model → ℕ → List Question
@@ -28,19 +28,15 @@ pub pairs_by_number : (s : Model) → pair_questions s ≡ pairs_below s (s.reso
 pairs_by_number s = upto_rows (λ r k. OfResource r (suc k) ∷ []) s.echelons s.resources
 
 not_or : (x y : Bool) → not (x || y) ≡ not x && not y
-not_or true y = refl
-not_or false y = refl
+not_or x y = grind arith
 
 -- a pair that is needed and closed, or else open
 not_shut : (needs opens : Bool) → not (needs && not opens) ≡ cond needs opens true
-not_shut true true = refl
-not_shut true false = refl
-not_shut false opens = refl
+not_shut needs opens = grind arith
 
 -- what an open option posts
 posted_row : (o : Option Entry) (d : Entry) → (posted o).is_open ≡ true → (posted o).row ≡ unwrap_or o d ∷ []
-posted_row None d h = absurd (false≢true h)
-posted_row (Some p) d h = refl
+posted_row o d h = grind arith
 
 module _ (s : Model) (b : Book) (limits : Limits s) (kept : KeepsLimits b) (f : Question → Bool) where
   abbrev y : Problem
@@ -54,8 +50,7 @@ module _ (s : Model) (b : Book) (limits : Limits s) (kept : KeepsLimits b) (f : 
       ∙ ap (both (amount_of s b limits kept f (pairs_below s n))) (both_nothing (asked s b limits kept (f q) q))
 
   asked_is_open : (test : Bool) (q : Question) → cond test (is_open b q) true ≡ (asked s b limits kept test q).is_open
-  asked_is_open true q = sym (entry_open s b limits kept q)
-  asked_is_open false q = refl
+  asked_is_open test q = grind arith
 
   -- no pair that is needed is closed exactly where the amount is open
   pub clear_is_open : (needs : ℕ → Bool) (n : ℕ) → ((j : ℕ) → j < n → needs j ≡ f (pair_question s.echelons j)) → not (blocked y.is_closed needs n) ≡ (amount_of s b limits kept f (pairs_below s n)).is_open
@@ -68,8 +63,7 @@ module _ (s : Model) (b : Book) (limits : Limits s) (kept : KeepsLimits b) (f : 
       ∙ sym (ap (λ (x : Amount). x.is_open) (one_more n))
 
   asked_row : (test : Bool) (n : ℕ) → (asked s b limits kept test (pair_question s.echelons n)).is_open ≡ true → (asked s b limits kept test (pair_question s.echelons n)).row ≡ cond test (y.pair n ∷ []) []
-  asked_row true n h = posted_row (entry s b limits kept (pair_question s.echelons n)) blank h
-  asked_row false n h = refl
+  asked_row test n h = grind arith
 
   -- and then it posts what the pairs post by number
   pub pairs_post : (needs : ℕ → Bool) (n : ℕ) → ((j : ℕ) → j < n → needs j ≡ f (pair_question s.echelons j)) → (amount_of s b limits kept f (pairs_below s n)).is_open ≡ true → pair_postings y.pair needs n ≡ (amount_of s b limits kept f (pairs_below s n)).row

@@ -3,7 +3,6 @@ use Rattle.std.proofs.Common.{ℕ, ◌≤◌, ℤ, pos, ◌*ℤ◌, ◌≤ℤ◌
 use Rattle.std.proofs.lemmas.Grind.{common_steps}
 use Rattle.std.proofs.lemmas.Int.{ints}
 use Rattle.model.specs.declared.answer.Answer.{Answer}
-use Rattle.model.specs.declared.answer.Answer.TheVariants.{Charged, Barred, Faulty}
 use Rattle.model.specs.declared.question.Question.TheVariants.{OfResource}
 use Rattle.model.specs.Books.{Book, InLimits, KeepsLimits}
 use Rattle.model.specs.Studies.{Model, Limits}
@@ -29,9 +28,7 @@ thousand z h = omega (arith, ints)
 -- no pair posts negative money
 no_gain : (r e : ℕ) (a : Answer) (w : WithinIf (posting_of 1000 a)) → InLimits (OfResource r e) a → pos 0 ≤ℤ (unwrap_or (with_proof (posting_of 1000 a) w) blank).posting.cents
 unfolding blank
-no_gain r e (Charged c) w h = thousand c.cents h.0
-no_gain r e Barred w h = omega (arith, ints)
-no_gain r e (Faulty f) w h = omega (arith, ints)
+no_gain r e a w h = grind arith
 
 module _ (s : Model) (b : Book) (limits : Limits s) (kept : KeepsLimits b) where
   table_sound : Sound (table s b limits kept)

@@ -40,20 +40,16 @@ module _ (s : Model) (b : Book) (limits : Limits s) (kept : KeepsLimits b) (x y 
       (cond also (both (asked s b limits kept third z) nothing) nothing))
 
   three_asked : (f : Question → Bool) (also : Bool) → amount_of s b limits kept f (x ∷ y ∷ cond also (z ∷ []) []) ≡ three (f x) (f y) (f z) also
-  three_asked f true = refl
-  three_asked f false = refl
+  three_asked f also = grind arith
 
   none_of_three : (also : Bool) → three false false false also ≡ nothing
-  none_of_three true = refl
-  none_of_three false = refl
+  none_of_three also = grind arith
 
   first_of_three : (also : Bool) → three true false false also ≡ posted (entry s b limits kept x)
-  first_of_three true = both_nothing (posted (entry s b limits kept x))
-  first_of_three false = both_nothing (posted (entry s b limits kept x))
+  first_of_three also = grind arith
 
   second_of_three : (also : Bool) → three false true false also ≡ posted (entry s b limits kept y)
-  second_of_three true = both_nothing (posted (entry s b limits kept y))
-  second_of_three false = both_nothing (posted (entry s b limits kept y))
+  second_of_three also = grind arith
 
   third_of_three : three false false true true ≡ posted (entry s b limits kept z)
   third_of_three = both_nothing (posted (entry s b limits kept z))

@@ -1,7 +1,6 @@
 -- Going through a list in order and keeping the first of the least: no element precedes what is kept.
 use Rattle.std.proofs.Common.{◌≡◌, ℕ, ◌<◌, ◌≤◌, Bool, true, false, cond, List, [], ◌∷◌, Some, None, fold, Option, refl, arith}
 use Rattle.std.specs.List.{AllByRecursion}
-use Rattle.std.proofs.lemmas.Bool.Decides.{nat_tests}
 use Rattle.costs.specs.Kinds.{Adding, Laws}
 use Rattle.theory.specs.Entries.{Entry, sum}
 use Rattle.theory.specs.Amounts.{Amount, Fits, value, precedes}
@@ -30,16 +29,10 @@ after_none number (x ∷ xs) = (tt, after_none number xs)
 module _ {C : Type 0} (lower : C → C → Bool) where
   -- a later one that is not lower does not precede
   later_not_lower : (u v : Option C) (x y : ℕ) → y ≤ x → is_lower lower u v ≡ false → precedes lower u x v y ≡ false
-  later_not_lower None None x y l e = refl
-  later_not_lower None (Some b) x y l e = refl
-  later_not_lower (Some a) None x y l e = e
-  later_not_lower (Some a) (Some b) x y l e = grind (arith, nat_tests)
+  later_not_lower u v x y l e = grind arith
 
   lower_precedes : (u v : Option C) (x y : ℕ) → is_lower lower u v ≡ true → precedes lower u x v y ≡ true
-  lower_precedes None None x y e = e
-  lower_precedes None (Some b) x y e = e
-  lower_precedes (Some a) None x y e = refl
-  lower_precedes (Some a) (Some b) x y e = grind (arith, nat_tests)
+  lower_precedes u v x y e = grind arith
 
 module _ {X C : Type 0} {k : Adding C} {lower : C → C → Bool} (laws : Laws k lower) (costs : X → Amount) (fits : (x : X) → Fits (costs x)) (number : X → ℕ) where
   fits_of : (b : Option X) → Fits (costs_of costs b)
@@ -47,9 +40,7 @@ module _ {X C : Type 0} {k : Adding C} {lower : C → C → Bool} (laws : Laws k
   fits_of (Some x) = fits x
 
   lower_is_open : (o : Bool) (r : List Entry) (v : Option C) → is_lower lower (cond o (Some (sum k r)) None) v ≡ true → o ≡ true
-  lower_is_open true r v e = refl
-  lower_is_open false r None e = e
-  lower_is_open false r (Some b) e = e
+  lower_is_open o r v e = grind arith
 
   -- a does not precede c
   abbrev NotBefore : Amount → ℕ → Option X → Type 0

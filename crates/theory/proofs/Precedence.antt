@@ -13,8 +13,7 @@ pub known : {C : Type 0} (k : Adding C) (a : Amount) → Fits a → Known k (val
 known k a h = elim a.is_open as (λ b. Known k (cond b (Some (sum k a.row)) None)) [ true ↦ sum_known k a.row h | false ↦ tt ]
 
 pub none_is_last : {C : Type 0} (lower : C → C → Bool) (v : Option C) (x y : ℕ) → precedes lower None x v y ≡ false
-none_is_last lower None x y = refl
-none_is_last lower (Some b) x y = refl
+none_is_last lower v x y = grind arith
 
 -- an open amount precedes none
 pub open_is_before_none : {C : Type 0} (k : Adding C) (lower : C → C → Bool) (a : Amount) (x y : ℕ) → a.is_open ≡ true → precedes lower (value k a) x None y ≡ true
@@ -22,10 +21,7 @@ open_is_before_none k lower a x y e = ap (λ o. precedes lower (cond o (Some (su
 
 -- the same costs, and numbers in an order that is no better
 pub weaker : {C : Type 0} (lower : C → C → Bool) (u v : Option C) (x y x' y' : ℕ) → (y ≤ x → y' ≤ x') → precedes lower u x v y ≡ false → precedes lower u x' v y' ≡ false
-weaker lower None None x y x' y' f e = refl
-weaker lower None (Some b) x y x' y' f e = refl
-weaker lower (Some a) None x y x' y' f e = e
-weaker lower (Some a) (Some b) x y x' y' f e = grind (arith, nat_tests)
+weaker lower u v x y x' y' f e = grind arith
 
 module _ {C : Type 0} {k : Adding C} {lower : C → C → Bool} (laws : Laws k lower) where
   -- the laws of the order, for costs
@@ -70,8 +66,7 @@ module _ {C : Type 0} {k : Adding C} {lower : C → C → Bool} (laws : Laws k l
 
   -- no cost precedes itself, unless by a lower number
   pub not_itself : (u : Option C) (x y : ℕ) → y ≤ x → Known k u → precedes lower u x u y ≡ false
-  not_itself None x y l g = refl
-  not_itself (Some a) x y l g = let e = not_of_itself a g in grind (arith, nat_tests)
+  not_itself u x y l g = grind arith
 
   pub turned : (u v : Option C) (x y : ℕ) → Known k u → Known k v → precedes lower u x v y ≡ true → precedes lower v y u x ≡ false
   turned None None x y g h e = refl
@@ -81,10 +76,7 @@ module _ {C : Type 0} {k : Adding C} {lower : C → C → Bool} (laws : Laws k l
 
   -- neither precedes the other at one number: the same cost
   pub same_cost : (u v : Option C) (x : ℕ) → Known k u → Known k v → precedes lower u x v x ≡ false → precedes lower v x u x ≡ false → u ≡ v
-  same_cost None None x g h p q = refl
-  same_cost None (Some b) x g h p q = cc
-  same_cost (Some a) None x g h p q = cc
-  same_cost (Some a) (Some b) x g h p q = ap Some (neither_is_same a b g h (or_parts _ _ p).0 (or_parts _ _ q).0)
+  same_cost u v x g h p q = grind arith
 
   -- the same two for amounts that fit
   pub pass : (a b c : Amount) (x y t : ℕ) → Fits a → Fits b → Fits c → precedes lower (value k a) x (value k b) y ≡ false → precedes lower (value k b) y (value k c) t ≡ false → precedes lower (value k a) x (value k c) t ≡ false
