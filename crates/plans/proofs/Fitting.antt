@@ -2,18 +2,15 @@
 use Rattle.std.proofs.Common.{ℕ, ◌*◌, ◌≤◌, List, [], ◌∷◌, ℤ, pos, ◌*ℤ◌, neg_ℤ, ◌≤ℤ◌, Some, None, Option, arith}
 use Rattle.std.specs.List.{AllByRecursion}
 use Rattle.std.proofs.lemmas.Grind.{common_steps}
-use Rattle.std.proofs.lemmas.Nat.{mul-le}
-use Rattle.std.proofs.lemmas.Int.{ints}
 use Rattle.costs.specs.declared.posting.Posting.{Posting}
 use Rattle.costs.specs.Postings.{Within}
 use Rattle.model.specs.declared.answer.Answer.{Answer}
-use Rattle.model.specs.declared.answer.Charge.{Charge}
 use Rattle.model.specs.declared.question.Question.{Question}
 use Rattle.model.specs.declared.question.Question.TheVariants.{OfOption, OfResource}
 use Rattle.model.specs.declared.question.RepairOption.{RepairOption}
-use Rattle.model.specs.Books.{Book, OptionLimits, ResourceLimits, InLimits, KeepsLimits}
+use Rattle.model.specs.Books.{Book, InLimits, KeepsLimits}
 use Rattle.model.specs.Studies.{Model, Limits}
-use Rattle.plans.specs.Postings.{component, posted, posting_of, posting, add_posting, postings_for}
+use Rattle.plans.specs.Postings.{component, posting_of, posting, add_posting, postings_for}
 
 -- an amount of at most c above or below zero, taken n times, where n is at most m
 pub taken : (n m c : ℕ) (z : ℤ) → n ≤ m → neg_ℤ (pos c) ≤ℤ z → z ≤ℤ pos c → (neg_ℤ (pos (m * c)) ≤ℤ (pos n *ℤ z)) × ((pos n *ℤ z) ≤ℤ pos (m * c))
@@ -22,18 +19,6 @@ taken n m c z h low high = grind (arith, common_steps)
 -- a component fails at most 1,000,000 times in a thousand years
 few_failures : (s : Model) (i : ℕ) → Limits s → (component s i).rate ≤ 1_000_000
 few_failures s i l = grind (arith, common_steps)
-
-option_within : (n : ℕ) (c : Charge) → n ≤ 1_000_000 → OptionLimits c → Within (posted n c)
-option_within n c h l =
-    let t = taken n 1_000_000 1_000_000_000 c.cents h l.0 l.1 in
-    (t.0, t.1, mul-le n c.minutes 1_000_000 1_000_000 h l.2)
-
-resource_within : (c : Charge) → ResourceLimits c → Within (posted 1000 c)
-resource_within c l =
-    let low : neg_ℤ (pos 1_000_000_000_000) ≤ℤ c.cents = omega (arith, ints, l.0) in
-    let same : 1000 ≤ 1000 = omega arith in
-    let t = taken 1000 1000 1_000_000_000_000 c.cents same low l.1 in
-    (t.0, t.1, mul-le 1000 c.minutes 1000 1_000_000_000 same l.2)
 
 -- what is posted, if anything
 abbrev pub WithinIf : Option Posting → Type 0

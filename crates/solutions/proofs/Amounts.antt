@@ -1,24 +1,22 @@
 -- The questions that pass a test as an amount of the solver's argument: open where each is open, and the row of their postings.
-use Rattle.std.proofs.Common.{◌≡◌, ℕ, zero, suc, ◌<◌, Bool, true, cond, List, [], ◌∷◌, ◌++◌, map, length, Some, Option, sym, refl, ap, ◌∙◌, ap₂, arith}
+use Rattle.std.proofs.Common.{◌≡◌, ℕ, zero, suc, ◌<◌, Bool, true, cond, List, [], ◌∷◌, ◌++◌, map, length, Some, sym, refl, ap, ◌∙◌, ap₂, arith}
 use Rattle.std.proofs.lemmas.List.{map-append}
 use Rattle.std.proofs.lemmas.Bool.{and_parts, and_from}
 use Rattle.costs.specs.declared.posting.Posting.{Posting}
 use Rattle.costs.specs.Kinds.{Adding}
-use Rattle.model.specs.declared.answer.Answer.{Answer}
 use Rattle.model.specs.declared.question.Question.{Question}
 use Rattle.model.specs.Books.{Book, KeepsLimits}
 use Rattle.model.specs.Studies.{Model, Limits}
 use Rattle.plans.specs.Ranges.{upto, those}
-use Rattle.plans.specs.Questions.{is_charge, is_open}
-use Rattle.plans.specs.Postings.{times, posting_of, add_posting, postings_for, plus_postings, summed}
+use Rattle.plans.specs.Questions.{is_open}
+use Rattle.plans.specs.Postings.{postings_for, plus_postings, summed}
 use Rattle.plans.specs.Laws.{Among, here, later}
-use Rattle.plans.proofs.Fitting.{WithinIf, posting_within}
 use Rattle.plans.proofs.Joined.{posted_of}
 use Rattle.theory.specs.Entries.{Entry, adds, sum}
 use Rattle.theory.specs.Amounts.{Amount, nothing, both}
 use Rattle.theory.specs.Options.{posted}
 use Rattle.theory.proofs.Routes.{both_assoc}
-use Rattle.solutions.specs.Problems.{with_proof, entry}
+use Rattle.solutions.specs.Problems.{entry}
 use Rattle.solutions.proofs.Lists.{onward}
 
 -- ---- rows without the proofs of their limits
@@ -36,12 +34,6 @@ module _ {C : Type 0} (k : Adding C) where
   plain_sum (x ∷ xs) l = plain_adds (k.post x.posting) xs
 
 -- ---- the amount of a posting
-opened : (n : ℕ) (a : Answer) (w : WithinIf (posting_of n a)) → (posted (with_proof (posting_of n a) w)).is_open ≡ is_charge a
-opened n a w = grind arith
-
-plain_posted : (o : Option Posting) (w : WithinIf o) (ps : List Posting) → plain (posted (with_proof o w)).row ++ ps ≡ add_posting o ps
-plain_posted o w ps = grind arith
-
 module _ (s : Model) (b : Book) (limits : Limits s) (kept : KeepsLimits b) where
   -- the amount of one question that passes or does not
   abbrev pub asked : Bool → Question → Amount
@@ -51,9 +43,6 @@ module _ (s : Model) (b : Book) (limits : Limits s) (kept : KeepsLimits b) where
   abbrev pub amount_of : (Question → Bool) → List Question → Amount
   amount_of f [] = nothing
   amount_of f (q ∷ qs) = both (asked (f q) q) (amount_of f qs)
-
-  pub entry_open : (q : Question) → (posted (entry s b limits kept q)).is_open ≡ is_open b q
-  entry_open q = opened (times s q) (b q) (posting_within s b limits kept q)
 
   module _ (f : Question → Bool) where
     pub amount_append : (xs ys : List Question) → amount_of f (xs ++ ys) ≡ both (amount_of f xs) (amount_of f ys)

@@ -39,10 +39,6 @@ module _ {C : Type 0} (k : Adding C) (lower : C → C → Bool) where
   by_cost : (best : Option (Priced C)) (plan : List ℕ) (r : Result C Refusal) → keep_if lower best plan r ≡ keep_some best plan (result_ok r)
   by_cost best plan r = grind arith
 
-  -- and the two definitions keep the same of two plans
-  same_of_two : (u w : Option C) (plan best : List ℕ) → keep_some (plan_at w best) plan u ≡ cond (is_lower lower u w) (plan_at u plan) (plan_at w best)
-  same_of_two u w plan best = grind arith
-
   same_kept : (f : List ℕ → Amount) (best : Option (List ℕ)) (u : Option C) (plan : List ℕ) → keep_some (with_cost k f best) plan u ≡ cond (is_lower lower u (value k (costs_of f best))) (plan_at u plan) (with_cost k f best)
   same_kept f best u plan = grind arith
 

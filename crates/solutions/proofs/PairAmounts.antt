@@ -1,5 +1,5 @@
 -- The pairs of a resource and an echelon by number: the amount of those that are needed.
-use Rattle.std.proofs.Common.{◌≡◌, ℕ, zero, suc, ◌*◌, ◌<◌, Bool, true, cond, not, ◌&&◌, ◌||◌, List, [], ◌∷◌, ◌++◌, Option, unwrap_or, sym, refl, ap, ◌∙◌, ap₂, arith}
+use Rattle.std.proofs.Common.{◌≡◌, ℕ, zero, suc, ◌*◌, ◌<◌, Bool, true, cond, not, ◌&&◌, ◌||◌, List, [], ◌∷◌, ◌++◌, sym, refl, ap, ◌∙◌, ap₂, arith}
 use Rattle.std.proofs.lemmas.Bool.{and_parts}
 use Rattle.model.specs.declared.question.Question.{Question}
 use Rattle.model.specs.declared.question.Question.TheVariants.{OfResource}
@@ -7,9 +7,7 @@ use Rattle.model.specs.Books.{Book, KeepsLimits}
 use Rattle.model.specs.Studies.{Model, Limits}
 use Rattle.plans.specs.Ranges.{upto}
 use Rattle.plans.specs.Questions.{pair_questions, is_open}
-use Rattle.theory.specs.Entries.{Entry}
 use Rattle.theory.specs.Amounts.{Amount, both}
-use Rattle.theory.specs.Options.{posted}
 use Rattle.theory.specs.Marks.{blocked}
 use Rattle.theory.specs.Problems.{Problem}
 use Rattle.theory.specs.Searches.{pair_postings}
@@ -33,10 +31,6 @@ not_or x y = grind arith
 -- a pair that is needed and closed, or else open
 not_shut : (needs opens : Bool) → not (needs && not opens) ≡ cond needs opens true
 not_shut needs opens = grind arith
-
--- what an open option posts
-posted_row : (o : Option Entry) (d : Entry) → (posted o).is_open ≡ true → (posted o).row ≡ unwrap_or o d ∷ []
-posted_row o d h = grind arith
 
 module _ (s : Model) (b : Book) (limits : Limits s) (kept : KeepsLimits b) (f : Question → Bool) where
   abbrev y : Problem
