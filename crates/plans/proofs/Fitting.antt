@@ -1,5 +1,5 @@
 -- Every posting is within its limits.
-use Rattle.std.proofs.Common.{ℕ, ◌*◌, ◌≤◌, List, [], ◌∷◌, ℤ, pos, ◌*ℤ◌, neg_ℤ, ◌≤ℤ◌, Some, None, Option, arith}
+use Rattle.std.proofs.Common.{ℕ, ◌≤◌, List, [], ◌∷◌, Some, None, Option, arith}
 use Rattle.std.specs.List.{AllByRecursion}
 use Rattle.std.proofs.lemmas.Grind.{common_steps}
 use Rattle.costs.specs.declared.posting.Posting.{Posting}
@@ -11,10 +11,6 @@ use Rattle.model.specs.declared.question.RepairOption.{RepairOption}
 use Rattle.model.specs.Books.{Book, InLimits, KeepsLimits}
 use Rattle.model.specs.Studies.{Model, Limits}
 use Rattle.plans.specs.Postings.{component, posting_of, posting, add_posting, postings_for}
-
--- an amount of at most c above or below zero, taken n times, where n is at most m
-pub taken : (n m c : ℕ) (z : ℤ) → n ≤ m → neg_ℤ (pos c) ≤ℤ z → z ≤ℤ pos c → (neg_ℤ (pos (m * c)) ≤ℤ (pos n *ℤ z)) × ((pos n *ℤ z) ≤ℤ pos (m * c))
-taken n m c z h low high = grind (arith, common_steps)
 
 -- a component fails at most 1,000,000 times in a thousand years
 few_failures : (s : Model) (i : ℕ) → Limits s → (component s i).rate ≤ 1_000_000

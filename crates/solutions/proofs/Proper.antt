@@ -1,7 +1,6 @@
 -- A study with a component is a proper problem of the solver's argument.
-use Rattle.std.proofs.Common.{ℕ, ◌≤◌, ℤ, pos, ◌*ℤ◌, ◌≤ℤ◌, unwrap_or, arith}
+use Rattle.std.proofs.Common.{ℕ, ◌≤◌, pos, ◌≤ℤ◌, unwrap_or, arith}
 use Rattle.std.proofs.lemmas.Grind.{common_steps}
-use Rattle.std.proofs.lemmas.Int.{ints}
 use Rattle.model.specs.declared.answer.Answer.{Answer}
 use Rattle.model.specs.declared.question.Question.TheVariants.{OfResource}
 use Rattle.model.specs.Books.{Book, InLimits, KeepsLimits}
@@ -20,10 +19,6 @@ use Rattle.solutions.specs.Problems.{with_proof, parent_number, table, problem}
 -- a parent is entered before its component, and so has a number of at most i
 parent_before : (s : Model) → Limits s → (i : ℕ) → parent_number (parent s i) ≤ i
 parent_before s limits i = grind (arith, common_steps)
-
--- a thousand times an amount that is not negative is not negative
-thousand : (z : ℤ) → pos 0 ≤ℤ z → pos 0 ≤ℤ (pos 1000 *ℤ z)
-thousand z h = omega (arith, ints)
 
 -- no pair posts negative money
 no_gain : (r e : ℕ) (a : Answer) (w : WithinIf (posting_of 1000 a)) → InLimits (OfResource r e) a → pos 0 ≤ℤ (unwrap_or (with_proof (posting_of 1000 a) w) blank).posting.cents
