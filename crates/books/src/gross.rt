@@ -8,10 +8,8 @@ use crate::price_row::PriceRow;
 fn is_under(row: PriceRow, number: usize) -> bool
     ensures { result ≡ is_under number row }
 {
-    match row.parent {
-        None => false,
-        Some(parent) => usize::from(parent) == number,
-    }
+    row.parent
+        .is_some_and(|parent| usize::from(parent) == number)
 }
 
 // The rows under a row have greater numbers.

@@ -1,20 +1,9 @@
 // The place of each question's mark in the table of a ruling.
 ghost use Rattle.std.specs.Prelude.{◌≡◌};
-ghost use Rattle.books.specs.Marks.{option_number, place, InTable};
+ghost use Rattle.books.specs.Marks.{place, InTable};
 
-use crate::echelon::is_echelon;
-use model::question::{Question, RepairOption};
-
-// The options in the order D, R, M.
-fn option_number(option: RepairOption) -> usize
-    ensures { result ≡ option_number option }
-{
-    match option {
-        RepairOption::Discard => 0,
-        RepairOption::Repair => 1,
-        RepairOption::Move => 2,
-    }
-}
+use crate::echelon::index_of;
+use model::question::Question;
 
 // The place of a question in range: component 0 to 59 or resource 0 to 7, at echelon 1 to 4.
 pub(crate) fn place_of(question: Question) -> Option<usize>
@@ -27,22 +16,12 @@ pub(crate) fn place_of(question: Question) -> Option<usize>
             echelon,
             option,
         } => {
-            if component < 60 && is_echelon(echelon) {
-                Some(
-                    12 * usize::from(component)
-                        + 3 * (usize::from(echelon) - 1)
-                        + option_number(option),
-                )
-            } else {
-                None
-            }
+            let at = index_of(echelon)?;
+            (component < 60).then(|| 12 * usize::from(component) + 3 * at + option as usize)
         }
         Question::OfResource { resource, echelon } => {
-            if resource < 8 && is_echelon(echelon) {
-                Some(720 + 4 * usize::from(resource) + (usize::from(echelon) - 1))
-            } else {
-                None
-            }
+            let at = index_of(echelon)?;
+            (resource < 8).then(|| 720 + 4 * usize::from(resource) + at)
         }
     }
 }

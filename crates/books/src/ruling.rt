@@ -61,23 +61,16 @@ impl<B> Ruling<B> {
         ensures book { self.new.below ≡ self.old.below }
         ensures marks { (result, self.new.marks) ≡ on_mark self.old.marks (place question) mark }
     {
-        match place_of(question) {
-            None => Err(Refusal::RulingOutOfRange),
-            Some(place) => {
-                self.marks[place] = mark;
-                Ok(())
-            }
-        }
+        let place = place_of(question).ok_or(Refusal::RulingOutOfRange)?;
+        self.marks[place] = mark;
+        Ok(())
     }
 
     // Whether the question has a mark, and it is set.
     fn is_marked(&self, question: Question) -> bool
         ensures { result ≡ is_marked self.now.marks question }
     {
-        match place_of(question) {
-            None => false,
-            Some(place) => self.marks[place],
-        }
+        place_of(question).is_some_and(|place| self.marks[place])
     }
 }
 

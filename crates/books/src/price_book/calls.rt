@@ -40,7 +40,7 @@ impl PriceBook {
         if !is_entered(number, parent) {
             return Err(Refusal::UnknownPriceParent);
         }
-        if net < 1 || net > 100_000 {
+        if !(1..=100_000).contains(&net) {
             return Err(Refusal::PriceOutOfRange);
         }
         if repair_percent > 100 || discard_percent > 125 {
@@ -71,10 +71,6 @@ impl PriceBook {
         ensures { result ≡ gross_of (prices self.now).rows row }
     {
         let number = usize::from(row);
-        if number < self.rows.len() {
-            Some(gross_price(self.rows.as_slice(), number))
-        } else {
-            None
-        }
+        (number < self.rows.len()).then(|| gross_price(self.rows.as_slice(), number))
     }
 }
