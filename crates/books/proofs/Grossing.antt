@@ -1,5 +1,5 @@
 -- Gross prices, row by row: the sum over the rows from some number on, and the gross price as a net price with such a sum.
-use Rattle.std.proofs.Common.{◌≡◌, ℕ, zero, suc, ◌+◌, ◌<◌, ◌≤◌, true, false, cond, List, [], ◌∷◌, length, get_or, drop, sym, refl, ap, ◌∙◌, add-zero, zero-add, arith}
+use Rattle.std.proofs.Common.{◌≡◌, ℕ, zero, suc, ◌+◌, ◌<◌, ◌≤◌, false, cond, List, [], ◌∷◌, length, get_or, drop, sym, refl, ap, ◌∙◌, add-zero, zero-add, arith}
 use Rattle.std.proofs.lemmas.List.{drop_more, drop_all}
 use Rattle.books.specs.declared.price_row.PriceRow.{PriceRow}
 use Rattle.books.specs.PriceRows.{no_row}
@@ -26,9 +26,6 @@ under_more p rows k h =
     let h' : k < length (grosses 0 rows) = omega (arith, length_grosses 0 rows) in
     ap (λ l. f l (drop k (grosses 0 rows))) (drop_more rows k no_row h)
     ∙ ap (f (get_or rows k no_row ∷ drop (k + 1) rows)) (drop_more (grosses 0 rows) k 0 h')
-
-pub under_taken : (p : ℕ) (rows : List PriceRow) (k : ℕ) → k < length rows → is_under p (get_or rows k no_row) ≡ true → under_from p rows k ≡ gross rows k + under_from p rows (k + 1)
-under_taken p rows k h e = under_more p rows k h ∙ ap (λ b. cond b (gross rows k) 0 + under_from p rows (k + 1)) e
 
 pub under_left : (p : ℕ) (rows : List PriceRow) (k : ℕ) → k < length rows → is_under p (get_or rows k no_row) ≡ false → under_from p rows k ≡ 0 + under_from p rows (k + 1)
 under_left p rows k h e = under_more p rows k h ∙ ap (λ b. cond b (gross rows k) 0 + under_from p rows (k + 1)) e

@@ -1,13 +1,12 @@
 -- What setting and clearing marks comes to, and how rulings lie over a book and over each other.
-use Rattle.std.proofs.Common.{◌≡◌, ℕ, ◌<◌, Bool, true, false, cond, List, length, set, Some, None, Ok, Option, sym, refl, ap, ◌∙◌, inl, inr, arith}
+use Rattle.std.proofs.Common.{◌≡◌, ℕ, Bool, true, false, cond, List, set, Some, None, Option, sym, refl, ap, ◌∙◌, inl, inr, arith}
 use Rattle.std.proofs.lemmas.Bool.{cases_lt}
-use Rattle.std.proofs.lemmas.List.{length-replicate, get_or-replicate, get_or_past, get_or-set_same, get_or-set_other, set-set, set-get_or}
-use Rattle.model.specs.declared.answer.Answer.{Answer}
-use Rattle.model.specs.declared.answer.Answer.TheVariants.{Charged, Barred, Faulty}
+use Rattle.std.proofs.lemmas.List.{length-replicate, get_or-replicate, get_or_past, get_or-set_other, set-set, set-get_or}
+use Rattle.model.specs.declared.answer.Answer.TheVariants.{Barred}
 use Rattle.books.specs.Marks.{place, places, no_marks, is_marked_at, on_mark}
 use Rattle.books.specs.Rulings.{raised}
-use Rattle.books.specs.Laws.{ClearRulingAnswersAsBelow, BarAndLiftDecide, LiftUndoesBar, MarksStandApart, is_fault, EqualLayersAreOne}
-use Rattle.books.proofs.Placing.{same_question, placed_within}
+use Rattle.books.specs.Laws.{ClearRulingAnswersAsBelow, LiftUndoesBar, MarksStandApart}
+use Rattle.books.proofs.Placing.{same_question}
 
 clear_at : (a : Option ℕ) → is_marked_at no_marks a ≡ false
 clear_at None = refl
@@ -19,19 +18,6 @@ clear_at (Some p) =
 
 pub clear_as_below : ClearRulingAnswersAsBelow
 clear_as_below b q = ap (λ m. cond m Barred (raised (b q))) (clear_at (place q))
-
--- the mark of an accepted question is what was last set
-marked_at : (ms : List Bool) (m : Bool) (a : Option ℕ) → ((p : ℕ) → a ≡ Some p → p < length ms) → (on_mark ms a m).0 ≡ Ok tt → is_marked_at (on_mark ms a m).1 a ≡ m
-marked_at ms m None within ok = cc
-marked_at ms m (Some p) within ok = get_or-set_same ms p m false (within p refl)
-
-pub decided : BarAndLiftDecide
-decided ms b q full =
-    let within : (p : ℕ) → place q ≡ Some p → p < length ms = λ p e. omega (arith, placed_within q p e) in
-    record {
-      barred = λ ok. ap (λ m. cond m Barred (raised (b q))) (marked_at ms true (place q) within ok);
-      lifted = λ ok. ap (λ m. cond m Barred (raised (b q))) (marked_at ms false (place q) within ok);
-    }
 
 undone_at : (ms : List Bool) (a : Option ℕ) → is_marked_at ms a ≡ false → (on_mark (on_mark ms a true).1 a false).1 ≡ ms
 undone_at ms None clear = refl
@@ -49,13 +35,3 @@ pub apart : MarksStandApart
 apart ms p q differ =
     let other : (n : ℕ) → place p ≡ Some n → place q ≡ Some n → ⊥ = λ n a b. differ (same_question p q n a b) in
     record { by_bar = apart_at ms true (place p) (place q) other; by_lift = apart_at ms false (place p) (place q) other }
-
--- one layer more bars what it bars already, and leaves what is no fault as it is
-one_more : (m : Bool) (a : Answer) → is_fault a ≡ false → cond m Barred (raised (cond m Barred (raised a))) ≡ cond m Barred (raised a)
-one_more true a whole = refl
-one_more false (Charged c) whole = refl
-one_more false Barred whole = refl
-one_more false (Faulty f) whole = let z : ◌≡◌ {A = ℕ} 0 1 = cc in absurd (omega arith)
-
-pub as_one : EqualLayersAreOne
-as_one ms b q whole = one_more (is_marked_at ms (place q)) (b q) whole

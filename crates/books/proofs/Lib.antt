@@ -1,5 +1,6 @@
 pub mod Found
 pub mod Grossing
+pub mod Later
 pub mod Bounding
 pub mod Ranging
 pub mod Under

@@ -65,11 +65,3 @@ same_question (OfResource r e) (OfResource s f) n h k =
     let same-resource : r ≡ s = omega arith in
     let same-echelon : e ≡ f = omega arith in
     cc
-
-pub placed_within : (q : Question) (n : ℕ) → place q ≡ Some n → n < 752
-placed_within (OfOption i e o) n h =
-    let a = placed 60 i e (12 * i + 3 * (e - 1) + option_number o) n h in
-    omega (arith, number_most o)
-placed_within (OfResource r e) n h =
-    let a = placed 8 r e (720 + 4 * r + (e - 1)) n h in
-    omega arith

@@ -5,7 +5,9 @@ ghost use Rattle.books.specs.Marks.{place, InTable};
 use crate::echelon::index_of;
 use model::question::Question;
 
-// The place of a question in range: component 0 to 59 or resource 0 to 7, at echelon 1 to 4.
+// The place of a question in range: component 0 to 59 or resource 0 to 7, at echelon 1 to 4, with the options in the order
+// D, R, M.
+// Stays: one table; arrays in arrays are two tables, with a match on the question at each read and write (d).
 pub(crate) fn place_of(question: Question) -> Option<usize>
     ensures value { result ≡ place question }
     ensures within { InTable result }

@@ -9,6 +9,7 @@ mod calls;
 pub mod charges;
 
 // Room for every row is reserved when a book is made, so that no later call needs memory.
+// Stays: `prices` is a plain definition; an `impl Model` would show callers the prices alone, without what each book keeps (d).
 #[derive(Drop)]
 pub struct PriceBook {
     rows: Vec<PriceRow>,

@@ -23,6 +23,7 @@ impl PriceBook {
     }
 
     // Adds a row after the others, under the row of that number or, for 255, under none. Answers its number.
+    // Stays: no other call takes the price and its percents, so a struct of the three would only be made to be taken apart (d).
     pub fn add(
         &mut self,
         parent: u8,

@@ -1,6 +1,7 @@
 // A price book is a charge book: it charges from its rows and its yearly amounts, and never faults.
 ghost use Rattle.std.specs.Prelude.{◌≡◌, ◌≤◌};
 ghost use Rattle.model.specs.declared.question.Question.TheVariants.{OfOption, OfResource};
+ghost use Rattle.model.specs.declared.answer.Answer.TheVariants.{Charged};
 ghost use Rattle.books.specs.PriceRows.{AtMost};
 ghost use Rattle.books.specs.Gross.{most_gross};
 ghost use Rattle.books.specs.Prices.{prices};
@@ -8,6 +9,7 @@ ghost use Rattle.books.specs.Charges.{option_cents, priced, priced_limited};
 
 use super::PriceBook;
 use crate::echelon::is_echelon;
+use crate::gross::gross_price;
 use crate::price_row::PriceRow;
 use model::answer::{Answer, Charge};
 use model::book::ChargeBook;
@@ -15,7 +17,8 @@ use model::question::{Question, RepairOption};
 
 // The charge of an option in cents: a percent of the row's price, or of its gross price.
 fn option_cents(gross: u32, row: PriceRow, option: RepairOption) -> u32
-    requires { (gross ≤ most_gross) × (AtMost row) }
+    requires gross { gross ≤ most_gross }
+    requires row { AtMost row }
     ensures { result ≡ option_cents gross row option }
 {
     match option {
@@ -25,35 +28,36 @@ fn option_cents(gross: u32, row: PriceRow, option: RepairOption) -> u32
     }
 }
 
+// A charge of that money, and no minutes.
+fn charged(cents: i64) -> Answer
+    ensures { result ≡ Charged (record { cents = cents; minutes = 0 }) }
+{
+    Answer::Charged(Charge { cents, minutes: 0 })
+}
+
 impl PriceBook {
     // The charge of an option, and none where there is no row.
     fn option_answer(&self, component: u8, echelon: u8, option: RepairOption) -> Answer
         ensures { result ≡ priced (prices self.now) (OfOption component echelon option) }
     {
-        let Some(gross) = self.gross(component) else {
-            return Answer::Barred;
-        };
-        if !is_echelon(echelon) {
-            return Answer::Barred;
+        let number = usize::from(component);
+        match self.rows.get(number) {
+            Some(row) if is_echelon(echelon) => {
+                let gross = gross_price(self.rows.as_slice(), number);
+                charged(i64::from(option_cents(gross, *row, option)))
+            }
+            _ => Answer::Barred,
         }
-        let row = self.rows[usize::from(component)];
-        Answer::Charged(Charge {
-            cents: i64::from(option_cents(gross, row, option)),
-            minutes: 0,
-        })
     }
 
     // The yearly amount of a resource.
     fn resource_answer(&self, resource: u8, echelon: u8) -> Answer
         ensures { result ≡ priced (prices self.now) (OfResource resource echelon) }
     {
-        if resource > 7 || !is_echelon(echelon) {
-            return Answer::Barred;
+        match self.yearly.get(usize::from(resource)) {
+            Some(cents) if is_echelon(echelon) => charged(*cents as i64),
+            _ => Answer::Barred,
         }
-        Answer::Charged(Charge {
-            cents: self.yearly[usize::from(resource)] as i64,
-            minutes: 0,
-        })
     }
 }
 

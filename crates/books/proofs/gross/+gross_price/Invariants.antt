@@ -7,4 +7,4 @@ abbrev pub decreases-gross_price : goal.decreases-gross_price
 decreases-gross_price l = length l.rows.now - l.row
 
 abbrev pub invariant-loop-child : goal.invariant-loop-child
-invariant-loop-child l = l.sum + under_from l.row l.rows l.child ≡ gross l.rows l.row
+invariant-loop-child l = l.sum + under_from l.row l.rows (l.row + 1 + length l.yielded) ≡ gross l.rows l.row
