@@ -1,6 +1,6 @@
 // A component, as it was entered.
-ghost use Rattle.std.specs.Prelude.{◌≡◌, ◌≤◌};
-ghost use Rattle.model.specs.Components.{need, needs_resource, names_below, parent_of, is_entered};
+ghost use Rattle.std.specs.Prelude.{◌≡◌};
+ghost use Rattle.model.specs.Components.{need, needs_resource, parent_of, is_entered};
 
 use crate::question::RepairOption;
 
@@ -29,21 +29,14 @@ pub const NO_PARENT: u8 = 255;
 pub fn parent_of(number: u8) -> Option<u8>
     ensures { result ≡ parent_of number }
 {
-    if number == NO_PARENT {
-        None
-    } else {
-        Some(number)
-    }
+    (number != NO_PARENT).then_some(number)
 }
 
 // Whether there is no parent, or the parent is one of the first `count` that were entered.
 pub fn is_entered(count: usize, parent: Option<u8>) -> bool
     ensures { result ≡ is_entered count parent }
 {
-    match parent {
-        None => true,
-        Some(number) => usize::from(number) < count,
-    }
+    parent.is_none_or(|number| usize::from(number) < count)
 }
 
 impl Needs {
@@ -63,16 +56,5 @@ impl Needs {
         ensures { result ≡ needs_resource self option resource }
     {
         resource < 8 && (self.of(option) >> resource) % 2 == 1
-    }
-
-    // Whether the three masks name only resources below `resources`.
-    pub(crate) fn names_below(self, resources: u8) -> bool
-        requires { resources ≤ 8 }
-        ensures { result ≡ names_below resources self }
-    {
-        let end = 1u16 << resources;
-        u16::from(self.discard) < end
-            && u16::from(self.repair) < end
-            && u16::from(self.moving) < end
     }
 }

@@ -26,6 +26,7 @@ pub enum Question {
 
 impl RepairOption {
     // The option's letter: D, R or M.
+    // Stays: the variants count from 0, as places of marks do, so that `as` cannot give their letters too (d).
     pub fn letter(self) -> char
         ensures { result ≡ letter self }
     {

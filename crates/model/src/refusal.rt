@@ -51,6 +51,7 @@ impl From<Fault> for Refusal {
 
 impl Refusal {
     // The number of the question that failed.
+    // Stays: `as` gives no number where variants carry what the refusal speaks of (d).
     pub fn number(&self) -> u8
         ensures { result ≡ (said self.now).number }
     {

@@ -8,6 +8,7 @@ mod calls;
 mod reads;
 
 // Room for every component is reserved when a study is made, so that no later call needs memory.
+// Stays: `model` is a plain definition; an `impl Model` would show callers the model alone, without the limits it keeps (d).
 #[derive(Drop)]
 pub struct Study {
     echelons: u8,

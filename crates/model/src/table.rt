@@ -7,6 +7,7 @@ ghost use Rattle.model.specs.contracts.component.Component.{the_row as component
 
 use crate::component::Component;
 
+// Stays: a named form (docs/DECISIONS.md): a row is lent by a table that has no invariant to keep while it is changed (a).
 #[derive(Drop)]
 pub struct Table {
     pub rows: Vec<Component>,

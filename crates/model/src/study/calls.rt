@@ -1,6 +1,6 @@
 // The calls that make a study. A refused call leaves it as it was.
 ghost use Rattle.std.specs.Prelude.{◌≡◌, true, IfOk, vec_len};
-ghost use Rattle.model.specs.Components.{is_entered, level_under};
+ghost use Rattle.model.specs.Components.{is_entered, level_under, names_below};
 ghost use Rattle.model.specs.Studies.{model, blank_study, on_open, on_enter, on_require, on_strike};
 
 use super::Study;
@@ -26,7 +26,7 @@ impl Study {
     pub fn open(&mut self, echelons: u8, resources: u8) -> Result<(), Refusal>
         ensures { (result, model self.new) ≡ on_open (model self.old) echelons resources }
     {
-        if echelons < 1 || echelons > 4 {
+        if !(1..=4).contains(&echelons) {
             return Err(Refusal::EchelonCount);
         }
         if resources > 8 || resources * echelons > 16 {
@@ -54,10 +54,10 @@ impl Study {
         if level > 5 {
             return Err(Refusal::TooDeep);
         }
-        if !needs.names_below(self.resources) {
+        if !self.covers(needs) {
             return Err(Refusal::UnknownResource);
         }
-        if rate < 1 || rate > 1_000_000 {
+        if !(1..=1_000_000).contains(&rate) {
             return Err(Refusal::RateOutOfRange);
         }
         self.table.rows.push_reserved(Component {
@@ -77,7 +77,7 @@ impl Study {
         if number >= self.table.rows.len() {
             return Err(Refusal::UnknownComponent);
         }
-        if !needs.names_below(self.resources) {
+        if !self.covers(needs) {
             return Err(Refusal::UnknownResource);
         }
         self.table.row(number).needs = needs;
@@ -88,10 +88,18 @@ impl Study {
     pub fn strike(&mut self) -> Result<(), Refusal>
         ensures { (result, model self.new) ≡ on_strike (model self.old) }
     {
-        match self.table.rows.pop() {
-            None => Err(Refusal::NoComponent),
-            Some(_) => Ok(()),
-        }
+        self.table.rows.pop().ok_or(Refusal::NoComponent)?;
+        Ok(())
+    }
+
+    // Whether the needs name only resources of the study.
+    fn covers(&self, needs: Needs) -> bool
+        ensures { result ≡ names_below self.now.resources needs }
+    {
+        let end = 1u16 << self.resources;
+        [needs.discard, needs.repair, needs.moving]
+            .iter()
+            .all(|mask| u16::from(*mask) < end)
     }
 
     // The indenture level of a component with that parent.
@@ -99,9 +107,6 @@ impl Study {
         requires { is_entered (vec_len self.now.table.rows) parent ≡ true }
         ensures { result ≡ level_under self.now.table.rows.items parent }
     {
-        match parent {
-            None => 1,
-            Some(number) => self.table.rows[usize::from(number)].level + 1,
-        }
+        parent.map_or(1, |number| self.table.rows[usize::from(number)].level + 1)
     }
 }

@@ -13,5 +13,5 @@ invariant_of-self c =
     let known : is_entered (length xs) parent ≡ true = search rules in
     let fair : is_rate c.args.rate ≡ true = search rules in
     let row : Component = record { parent = parent; level = c.level_under-level.result; needs = c.args.needs; rate = c.args.rate } in
-    let kept = rows_push s.resources xs row s.rows (known, c.level_under-level.ensures, omega arith, sym c.if-not-names_below.ensures, fair) in
+    let kept = rows_push s.resources xs row s.rows (known, c.level_under-level.ensures, omega arith, sym c.if-not-covers.ensures, fair) in
     record { room = search rules; count = search rules; places = search rules; shared = search rules; rows = subst (λ ys. Rows s.resources ys) (sym c.push_reserved.ensures.items) kept }

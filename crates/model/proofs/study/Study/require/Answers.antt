@@ -13,6 +13,6 @@ invariant_of-self c =
     let ok = s.table.rows.ok.0 in
     let l : i < length xs = omega arith in
     let old = get_or_read xs i c.row.result.now l c.row.ensures.value no_component in
-    let kept = rows_set s.resources xs i c.args.needs l s.rows (sym c.if-not-names_below.ensures) in
+    let kept = rows_set s.resources xs i c.args.needs l s.rows (sym c.if-not-covers.ensures) in
     let sound = subst (λ (r : Component). Rows s.resources (set xs i (with_needs r c.args.needs))) (sym old) kept in
     record { room = search rules; count = search rules; places = search rules; shared = search rules; rows = sound }
