@@ -7,10 +7,10 @@ pub limited : (s : Study) → Limits (model s)
 limited s =
     let ok = s.table.rows.ok.0 in
     record {
-      some_echelon = s.places.0;
-      few_echelons = s.places.1;
-      few_resources = s.shared.0;
-      few_pairs = s.shared.1;
+      some_echelon = s.some_echelon;
+      few_echelons = s.few_echelons;
+      few_resources = s.few_resources;
+      few_pairs = s.few_pairs;
       few_components = omega (arith, s.count);
       sound_rows = s.rows;
     }

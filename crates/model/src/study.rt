@@ -16,7 +16,9 @@ pub struct Study {
     table: Table,
     ghost room: { 60 ≤ vec_capacity table.rows },
     ghost count: { vec_len table.rows ≤ 60 },
-    ghost places: { (1 ≤ echelons) × (echelons ≤ 4) },
-    ghost shared: { (resources ≤ 8) × (resources * echelons ≤ 16) },
+    ghost some_echelon: { 1 ≤ echelons },
+    ghost few_echelons: { echelons ≤ 4 },
+    ghost few_resources: { resources ≤ 8 },
+    ghost few_pairs: { resources * echelons ≤ 16 },
     ghost rows: { Rows resources table.rows.items },
 }
