@@ -1,4 +1,3 @@
-pub mod Found
 pub mod Grossing
 pub mod Later
 pub mod Bounding

@@ -1,11 +1,11 @@
 -- Two questions in range have two places.
 use Rattle.std.proofs.Common.{◌≡◌, ℕ, ◌+◌, ◌-◌, ◌*◌, ◌<◌, ◌≤◌, cond, ◌&&◌, ltb, leb, Some, None, refl, arith}
 use Rattle.std.proofs.lemmas.Bool.{and_parts, ltb-true, leb-true}
+use Rattle.std.proofs.lemmas.Option.{cond_some}
 use Rattle.model.specs.declared.question.Question.{Question}
 use Rattle.model.specs.declared.question.Question.TheVariants.{OfOption, OfResource}
 use Rattle.model.specs.declared.question.RepairOption.{RepairOption}
 use Rattle.model.specs.declared.question.RepairOption.TheVariants.{Discard, Repair, Move}
-use Rattle.books.proofs.Found.{some_is}
 use Rattle.books.specs.Echelons.{is_echelon}
 use Rattle.books.specs.Marks.{option_number, place}
 
@@ -18,7 +18,7 @@ record Placed (m k e x n : ℕ) : Type 0 where
 
 placed : (m k e x n : ℕ) → cond (ltb k m && is_echelon e) (Some x) None ≡ Some n → Placed m k e x n
 placed m k e x n h =
-    let is = some_is (ltb k m && is_echelon e) x n h in
+    let is = cond_some (ltb k m && is_echelon e) x n h in
     let parts = and_parts (ltb k m) (is_echelon e) is.0 in
     let echelon = and_parts (leb 1 e) (leb e 4) parts.1 in
     record { few = ltb-true k m parts.0; first = leb-true 1 e echelon.0; last = leb-true e 4 echelon.1; there = is.1 }
