@@ -20,7 +20,6 @@ use Rattle.plans.specs.Uses.{uses}
 use Rattle.plans.specs.Prices.{open_if, needs_pair}
 use Rattle.planning.specs.declared.route.Route.{Route}
 use Rattle.planning.specs.declared.table.Choices.{Choices}
-use Rattle.planning.specs.declared.table.ResourceRow.{ResourceRow}
 use Rattle.planning.specs.declared.table.Survey.{Survey}
 use Rattle.planning.specs.Surveys.{no_choices, no_resource, choices_of, option_row, pair_posting, resource_row, Keeps}
 use Rattle.planning.specs.OpenRows.{posted_where, uses_on, needs_on, needs_resource_on, choices_open, options_open, resource_open, resources_open}
@@ -55,7 +54,7 @@ module _ (w : Route) (last e : ℕ) (few : w.byte ≤ 2 * last) where
       or_from _ _ (by Discard) (or_from _ _ (by Repair) (by Move))
 
 -- the row of resource r, read at a number that equals r
-pub row_read : (w : Route) (n : Needs) (rows : List ResourceRow) (r k : ℕ) (v : Bool) → k ≡ r → v ≡ resource_open w n r (get_or rows k no_resource) → resource_open w n r (get_or rows r no_resource) ≡ v
+pub row_read : (w : Route) (n : Needs) (rows : List (List (Option Posting))) (r k : ℕ) (v : Bool) → k ≡ r → v ≡ resource_open w n r (get_or rows k no_resource) → resource_open w n r (get_or rows r no_resource) ≡ v
 row_read w n rows r k v e h = sym (h ∙ ap (λ j. resource_open w n r (get_or rows j no_resource)) e)
 
 -- the way of component i in a plan

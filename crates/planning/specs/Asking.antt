@@ -12,8 +12,6 @@ use Rattle.model.specs.Studies.{Model}
 use Rattle.plans.specs.Questions.{count, echelon_questions, component_questions, resource_questions, option_questions, pair_questions, first_fault, fault_of}
 use Rattle.plans.specs.Postings.{posted, posting_of}
 use Rattle.planning.specs.declared.table.Choices.{Choices}
-use Rattle.planning.specs.declared.table.OptionRow.{OptionRow}
-use Rattle.planning.specs.declared.table.ResourceRow.{ResourceRow}
 use Rattle.planning.specs.Surveys.{choices_of, option_row, OptionRows, pair_posting, resource_row, ResourceRows}
 
 -- a charge posted n times is within the limits of a posting
@@ -42,11 +40,11 @@ abbrev pub AskedChoices : Model → Book → ℕ → ℕ → Result Choices Faul
 AskedChoices s b i e r = Asked b (asked_at s.echelons (echelon_questions s.echelons i) e) (λ x. x ≡ choices_of s b i e) r
 
 -- the options of component i at every echelon
-abbrev pub AskedOptionRow : Model → Book → ℕ → Result OptionRow Fault → Type 0
+abbrev pub AskedOptionRow : Model → Book → ℕ → Result (List Choices) Fault → Type 0
 AskedOptionRow s b i r = Asked b (component_questions s.echelons i) (λ x. x ≡ option_row s b i) r
 
 -- the rows of every component
-abbrev pub AskedOptions : Model → Book → Result (List OptionRow) Fault → Type 0
+abbrev pub AskedOptions : Model → Book → Result (List (List Choices)) Fault → Type 0
 AskedOptions s b r = Asked b (option_questions s) (OptionRows s b (count s)) r
 
 -- the question about resource q at echelon e
@@ -57,9 +55,9 @@ abbrev pub AskedPair : Model → Book → ℕ → ℕ → Result (Option Posting
 AskedPair s b q e r = Asked b (asked_at s.echelons (pair_question q) e) (λ x. x ≡ pair_posting s b q e) r
 
 -- resource q at every echelon
-abbrev pub AskedResourceRow : Model → Book → ℕ → Result ResourceRow Fault → Type 0
+abbrev pub AskedResourceRow : Model → Book → ℕ → Result (List (Option Posting)) Fault → Type 0
 AskedResourceRow s b q r = Asked b (resource_questions s.echelons q) (λ x. x ≡ resource_row s b q) r
 
 -- the rows of every resource
-abbrev pub AskedResources : Model → Book → Result (List ResourceRow) Fault → Type 0
+abbrev pub AskedResources : Model → Book → Result (List (List (Option Posting))) Fault → Type 0
 AskedResources s b r = Asked b (pair_questions s) (ResourceRows s b s.resources) r

@@ -8,8 +8,6 @@ use Rattle.model.specs.Components.{needs_resource}
 use Rattle.plans.specs.Uses.{uses_at}
 use Rattle.planning.specs.declared.route.Route.{Route}
 use Rattle.planning.specs.declared.table.Choices.{Choices}
-use Rattle.planning.specs.declared.table.OptionRow.{OptionRow}
-use Rattle.planning.specs.declared.table.ResourceRow.{ResourceRow}
 use Rattle.planning.specs.Surveys.{no_choices, no_resource}
 
 -- every number below n passes
@@ -32,8 +30,8 @@ choices_open w e c =
     && (posted_where (uses_on w e Repair) c.repair && posted_where (uses_on w e Move) c.moving)
 
 -- they are at the echelons 1 to 4
-abbrev pub options_open : Route → OptionRow → Bool
-options_open w row = every_below (λ k. choices_open w (suc k) (slice_index_or row.echelons k no_choices)) 4
+abbrev pub options_open : Route → List Choices → Bool
+options_open w row = every_below (λ k. choices_open w (suc k) (slice_index_or row k no_choices)) 4
 
 -- the component needs resource r at echelon e by that option
 abbrev pub needs_on : Route → Needs → ℕ → ℕ → RepairOption → Bool
@@ -44,10 +42,10 @@ abbrev pub needs_resource_on : Route → Needs → ℕ → ℕ → Bool
 needs_resource_on w n r e = needs_on w n r e Discard || (needs_on w n r e Repair || needs_on w n r e Move)
 
 -- resource r is open at each of the echelons 1 to 4 where the component needs it
-abbrev pub resource_open : Route → Needs → ℕ → ResourceRow → Bool
+abbrev pub resource_open : Route → Needs → ℕ → List (Option Posting) → Bool
 resource_open w n r row =
-    every_below (λ k. posted_where (needs_resource_on w n r (suc k)) (slice_index_or row.echelons k None)) 4
+    every_below (λ k. posted_where (needs_resource_on w n r (suc k)) (slice_index_or row k None)) 4
 
 -- each of the first q resources is
-abbrev pub resources_open : Route → Needs → List ResourceRow → ℕ → Bool
+abbrev pub resources_open : Route → Needs → List (List (Option Posting)) → ℕ → Bool
 resources_open w n rows q = every_below (λ r. resource_open w n r (slice_index_or rows r no_resource)) q

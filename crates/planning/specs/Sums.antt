@@ -1,5 +1,5 @@
 -- What is added to a sum: the postings of a component or a resource, by its row of the survey.
-use Rattle.std.specs.Prelude.{◌≡◌, ℕ, ◌≤◌, Bool, true, false, List, [], ◌++◌, length, None, Option, slice_index_or}
+use Rattle.std.specs.Prelude.{◌≡◌, ℕ, pred, ◌≤◌, Bool, true, false, List, [], ◌++◌, length, None, Option, slice_index_or}
 use Rattle.std.specs.List.{AllByRecursion}
 use Rattle.costs.specs.declared.posting.Posting.{Posting}
 use Rattle.costs.specs.Kinds.{Adding}
@@ -12,8 +12,6 @@ use Rattle.plans.specs.Ranges.{those}
 use Rattle.plans.specs.Postings.{add_posting, postings_for, summed}
 use Rattle.plans.specs.Uses.{uses_at, uses}
 use Rattle.planning.specs.declared.table.Choices.{Choices}
-use Rattle.planning.specs.declared.table.OptionRow.{OptionRow}
-use Rattle.planning.specs.declared.table.ResourceRow.{ResourceRow}
 use Rattle.planning.specs.declared.table.Survey.{Survey}
 use Rattle.planning.specs.Surveys.{no_choices, Keeps}
 
@@ -39,12 +37,16 @@ abbrev pub at_four : {A : Type 0} → (ℕ → A → List Posting) → A → Lis
 at_four f none row = f 1 (slice_index_or row 0 none) ++ (f 2 (slice_index_or row 1 none) ++ (f 3 (slice_index_or row 2 none) ++ f 4 (slice_index_or row 3 none)))
 
 -- the postings of such a component
-abbrev pub of_component : ℕ → ℕ → OptionRow → List Posting
-of_component a b row = at_four (at_echelon a b) no_choices row.echelons
+abbrev pub of_component : ℕ → ℕ → List Choices → List Posting
+of_component a b row = at_four (at_echelon a b) no_choices row
 
 -- the postings of a resource, by the test whether it is needed at an echelon
-abbrev pub of_resource : (ℕ → Bool) → ResourceRow → List Posting
-of_resource needed row = at_four (λ e. if_used (needed e)) None row.echelons
+abbrev pub of_resource : (ℕ → Bool) → List (Option Posting) → List Posting
+of_resource needed row = at_four (λ e. if_used (needed e)) None row
+
+-- whether a resource is used at echelon e, by a list whose places are one below the echelons
+abbrev pub used_at : List Bool → ℕ → Bool
+used_at used e = slice_index_or used (pred e) false
 
 -- the postings of what a plan uses among some questions
 abbrev pub used_postings : Model → Book → List ℕ → List Question → List Posting

@@ -9,19 +9,21 @@ use Rattle.model.specs.Studies.{Model}
 use Rattle.plans.specs.Questions.{count, questions, first_fault}
 use Rattle.plans.specs.Postings.{posting}
 use Rattle.planning.specs.declared.table.Choices.{Choices}
-use Rattle.planning.specs.declared.table.OptionRow.{OptionRow}
-use Rattle.planning.specs.declared.table.ResourceRow.{ResourceRow}
 use Rattle.planning.specs.declared.table.Survey.{Survey}
 
 -- stand where nothing is asked
 abbrev pub no_choices : Choices
 no_choices = record { discard = None; repair = None; moving = None }
 
-abbrev pub no_options : OptionRow
-no_options = record { echelons = [] }
+abbrev pub no_options : List Choices
+no_options = []
 
-abbrev pub no_resource : ResourceRow
-no_resource = record { echelons = [] }
+abbrev pub no_resource : List (Option Posting)
+no_resource = []
+
+-- what f gives for the echelons 1 to 4
+abbrev pub by_echelon : {A : Type 0} → (ℕ → A) → List A
+by_echelon f = f 1 ∷ f 2 ∷ f 3 ∷ f 4 ∷ []
 
 -- component i at echelon e: nothing past the last echelon, and no move from it
 abbrev pub choices_of : Model → Book → ℕ → ℕ → Choices
@@ -34,21 +36,21 @@ choices_of s b i e =
     })
     no_choices
 
-abbrev pub option_row : Model → Book → ℕ → OptionRow
-option_row s b i = record { echelons = choices_of s b i 1 ∷ choices_of s b i 2 ∷ choices_of s b i 3 ∷ choices_of s b i 4 ∷ [] }
+abbrev pub option_row : Model → Book → ℕ → List Choices
+option_row s b i = by_echelon (choices_of s b i)
 
 -- resource r at echelon e: nothing past the last echelon
 abbrev pub pair_posting : Model → Book → ℕ → ℕ → Option Posting
 pair_posting s b r e = cond (nat_le e s.echelons) (posting s b (OfResource r e)) None
 
-abbrev pub resource_row : Model → Book → ℕ → ResourceRow
-resource_row s b r = record { echelons = pair_posting s b r 1 ∷ pair_posting s b r 2 ∷ pair_posting s b r 3 ∷ pair_posting s b r 4 ∷ [] }
+abbrev pub resource_row : Model → Book → ℕ → List (Option Posting)
+resource_row s b r = by_echelon (pair_posting s b r)
 
 -- the rows of the components below n, and of the resources below n
-abbrev pub OptionRows : Model → Book → ℕ → List OptionRow → Type 0
+abbrev pub OptionRows : Model → Book → ℕ → List (List Choices) → Type 0
 OptionRows s b n rows = (i : ℕ) → i < n → slice_index_or rows i no_options ≡ option_row s b i
 
-abbrev pub ResourceRows : Model → Book → ℕ → List ResourceRow → Type 0
+abbrev pub ResourceRows : Model → Book → ℕ → List (List (Option Posting)) → Type 0
 ResourceRows s b n rows = (r : ℕ) → r < n → slice_index_or rows r no_resource ≡ resource_row s b r
 
 -- the survey has a row for each component and each resource of the study

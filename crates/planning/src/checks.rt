@@ -10,7 +10,7 @@ ghost use Rattle.planning.specs.OpenRows.{posted_where, choices_open, options_op
 ghost use Rattle.planning.specs.Surveys.{Keeps};
 
 use crate::route::Route;
-use crate::table::{Choices, OptionRow, ResourceRow, Survey};
+use crate::table::{ByEchelon, Choices, Survey};
 use costs::posting::Posting;
 use model::component::{Component, Needs};
 use model::question::RepairOption;
@@ -34,10 +34,10 @@ fn choices_open(route: Route, echelon: u8, choices: Choices) -> bool
 }
 
 // Whether every option that the component uses is open.
-fn options_open(route: Route, row: OptionRow) -> bool
+fn options_open(route: Route, row: ByEchelon<Choices>) -> bool
     ensures { result ≡ options_open route row }
 {
-    let [at_1, at_2, at_3, at_4] = row.echelons;
+    let [at_1, at_2, at_3, at_4] = row;
     choices_open(route, 1, at_1)
         && choices_open(route, 2, at_2)
         && choices_open(route, 3, at_3)
@@ -45,10 +45,10 @@ fn options_open(route: Route, row: OptionRow) -> bool
 }
 
 // Whether that resource is open wherever the component needs it.
-fn resource_open(route: Route, needs: Needs, resource: u8, row: ResourceRow) -> bool
+fn resource_open(route: Route, needs: Needs, resource: u8, row: ByEchelon<Option<Posting>>) -> bool
     ensures { result ≡ resource_open route needs resource row }
 {
-    let [at_1, at_2, at_3, at_4] = row.echelons;
+    let [at_1, at_2, at_3, at_4] = row;
     posted_where(route.needs(needs, 1, resource), at_1)
         && posted_where(route.needs(needs, 2, resource), at_2)
         && posted_where(route.needs(needs, 3, resource), at_3)

@@ -6,6 +6,7 @@ pub mod decision;
 pub mod laws;
 pub mod price;
 mod route;
+pub mod start;
 pub mod survey;
 pub mod table;
 pub mod totals;

@@ -2,9 +2,10 @@
 ghost use Rattle.std.specs.Prelude.{◌≡◌, ◌&&◌, ◌||◌};
 ghost use Rattle.model.specs.Components.{needs_resource};
 ghost use Rattle.model.specs.declared.question.RepairOption.TheVariants.{Discard, Repair, Move};
-ghost use Rattle.plans.specs.Starts.{byte, final, repaired_at, start_under};
+ghost use Rattle.plans.specs.Starts.{byte, final, start_under};
 ghost use Rattle.plans.specs.Uses.{uses_at};
 
+use crate::start::{byte_of, start_under};
 use model::component::{Component, Needs};
 use model::question::RepairOption;
 
@@ -13,20 +14,6 @@ use model::question::RepairOption;
 pub(crate) struct Route {
     pub start: u8,
     pub byte: u8,
-}
-
-// The byte of a component; 0 past the end of the plan.
-pub(crate) fn byte_of(plan: &[u8], number: usize) -> u8
-    ensures { result ≡ byte plan.now number }
-{
-    if number < plan.len() { plan[number] } else { 0 }
-}
-
-// The echelon at which a byte repairs, 0 where it does not.
-fn repaired_at(byte: u8) -> u8
-    ensures { result ≡ repaired_at byte }
-{
-    if byte % 2 == 0 { byte / 2 } else { 0 }
 }
 
 // The final echelon that a byte names.
@@ -42,12 +29,8 @@ impl Route {
         ensures start { result.start ≡ start_under plan.now component.now.parent }
         ensures byte { result.byte ≡ byte plan.now number }
     {
-        let start = match component.parent {
-            None => 1,
-            Some(parent) => repaired_at(byte_of(plan, usize::from(parent))),
-        };
         Route {
-            start,
+            start: start_under(plan, component.parent),
             byte: byte_of(plan, number),
         }
     }

@@ -8,7 +8,7 @@ ghost use Rattle.plans.specs.Postings.{component, posted};
 ghost use Rattle.planning.specs.Asking.{Learned, Postable, AskedChoices, AskedOptionRow, AskedOptions, AskedPair, AskedResourceRow, AskedResources};
 ghost use Rattle.planning.specs.Surveys.{Surveyed};
 
-use crate::table::{Choices, OptionRow, ResourceRow, Survey};
+use crate::table::{ByEchelon, Choices, Survey};
 use costs::posting::Posting;
 use model::answer::{Answer, Charge, Fault};
 use model::book::ChargeBook;
@@ -104,27 +104,27 @@ fn choices_at<B: ChargeBook>(
 }
 
 // Asks for a component's options at each echelon.
-fn option_row<B: ChargeBook>(study: &Study, book: &B, number: u8) -> Result<OptionRow, Fault>
+fn option_row<B: ChargeBook>(
+    study: &Study,
+    book: &B,
+    number: u8,
+) -> Result<ByEchelon<Choices>, Fault>
     requires { number < count (model study.now) }
     ensures { AskedOptionRow (model study.now) (B.meaning book.now) number result }
 {
-    Ok(OptionRow {
-        echelons: [
-            choices_at(study, book, number, 1)?,
-            choices_at(study, book, number, 2)?,
-            choices_at(study, book, number, 3)?,
-            choices_at(study, book, number, 4)?,
-        ],
-    })
+    Ok([
+        choices_at(study, book, number, 1)?,
+        choices_at(study, book, number, 2)?,
+        choices_at(study, book, number, 3)?,
+        choices_at(study, book, number, 4)?,
+    ])
 }
 
 // Asks for the options of each component.
-fn option_rows<B: ChargeBook>(study: &Study, book: &B) -> Result<[OptionRow; 60], Fault>
+fn option_rows<B: ChargeBook>(study: &Study, book: &B) -> Result<[ByEchelon<Choices>; 60], Fault>
     ensures { AskedOptions (model study.now) (B.meaning book.now) result }
 {
-    let mut rows = [OptionRow {
-        echelons: [NO_CHOICES; 4],
-    }; 60];
+    let mut rows = [[NO_CHOICES; 4]; 60];
     for number in 0..study.components().len() {
         rows[number] = option_row(study, book, number as u8)?;
     }
@@ -147,26 +147,29 @@ fn pair_posting<B: ChargeBook>(
 }
 
 // Asks for a resource at each echelon.
-fn resource_row<B: ChargeBook>(study: &Study, book: &B, resource: u8) -> Result<ResourceRow, Fault>
+fn resource_row<B: ChargeBook>(
+    study: &Study,
+    book: &B,
+    resource: u8,
+) -> Result<ByEchelon<Option<Posting>>, Fault>
     ensures { AskedResourceRow (model study.now) (B.meaning book.now) resource result }
 {
-    Ok(ResourceRow {
-        echelons: [
-            pair_posting(study, book, resource, 1)?,
-            pair_posting(study, book, resource, 2)?,
-            pair_posting(study, book, resource, 3)?,
-            pair_posting(study, book, resource, 4)?,
-        ],
-    })
+    Ok([
+        pair_posting(study, book, resource, 1)?,
+        pair_posting(study, book, resource, 2)?,
+        pair_posting(study, book, resource, 3)?,
+        pair_posting(study, book, resource, 4)?,
+    ])
 }
 
 // Asks for each resource.
-fn resource_rows<B: ChargeBook>(study: &Study, book: &B) -> Result<[ResourceRow; 8], Fault>
+fn resource_rows<B: ChargeBook>(
+    study: &Study,
+    book: &B,
+) -> Result<[ByEchelon<Option<Posting>>; 8], Fault>
     ensures { AskedResources (model study.now) (B.meaning book.now) result }
 {
-    let mut rows = [ResourceRow {
-        echelons: [None; 4],
-    }; 8];
+    let mut rows = [[None; 4]; 8];
     for resource in 0..study.resources() {
         rows[usize::from(resource)] = resource_row(study, book, resource)?;
     }

@@ -8,10 +8,10 @@ ghost use Rattle.plans.specs.Postings.{summed};
 ghost use Rattle.plans.specs.Uses.{uses};
 ghost use Rattle.plans.specs.Plans.{postings};
 ghost use Rattle.planning.specs.Surveys.{Keeps};
-ghost use Rattle.planning.specs.Sums.{Adds, AddsUsed, if_used, at_echelon, of_component, of_resource};
+ghost use Rattle.planning.specs.Sums.{Adds, AddsUsed, if_used, at_echelon, of_component, of_resource, used_at};
 
 use crate::route::Route;
-use crate::table::{Choices, OptionRow, ResourceRow, Survey};
+use crate::table::{ByEchelon, Choices, Survey};
 use costs::kind::CostKind;
 use costs::posting::Posting;
 use model::question::RepairOption;
@@ -70,11 +70,11 @@ fn plus_component<K: CostKind>(
     kind: &K,
     sum: Option<K::Cost>,
     route: Route,
-    row: &OptionRow,
+    row: &ByEchelon<Choices>,
 ) -> Option<K::Cost>
     ensures { Adds K.adding sum (of_component route.start route.byte row.now) result }
 {
-    let [first, second, third, fourth] = row.echelons;
+    let [first, second, third, fourth] = *row;
     let sum = plus_echelon(kind, sum, route, 1, first);
     let sum = plus_echelon(kind, sum, route, 2, second);
     let sum = plus_echelon(kind, sum, route, 3, third);
@@ -106,15 +106,28 @@ fn plus_resource<K: CostKind>(
     study: &Study,
     plan: &[u8],
     resource: u8,
-    row: &ResourceRow,
+    row: &ByEchelon<Option<Posting>>,
 ) -> Option<K::Cost>
     ensures { Adds K.adding sum (of_resource (λ e. uses (model study.now) plan.now (OfResource resource e)) row.now) result }
 {
-    let [first, second, third, fourth] = row.echelons;
-    let sum = plus_used(kind, sum, is_needed(study, plan, resource, 1), first);
-    let sum = plus_used(kind, sum, is_needed(study, plan, resource, 2), second);
-    let sum = plus_used(kind, sum, is_needed(study, plan, resource, 3), third);
-    plus_used(kind, sum, is_needed(study, plan, resource, 4), fourth)
+    let needed = [1, 2, 3, 4].map(|echelon| is_needed(study, plan, resource, echelon));
+    plus_row(kind, sum, needed, row)
+}
+
+// Adds the postings of a resource at those of the echelons 1 to 4 where it is used.
+pub fn plus_row<K: CostKind>(
+    kind: &K,
+    sum: Option<K::Cost>,
+    used: [bool; 4],
+    row: &ByEchelon<Option<Posting>>,
+) -> Option<K::Cost>
+    ensures { Adds K.adding sum (of_resource (used_at used) row.now) result }
+{
+    let mut total = sum;
+    for (place, posting) in row.iter().enumerate() {
+        total = plus_used(kind, total, used[place], *posting);
+    }
+    total
 }
 
 // Whether some component needs the resource at that echelon.
@@ -131,7 +144,7 @@ pub fn is_needed(study: &Study, plan: &[u8], resource: u8, echelon: u8) -> bool
 }
 
 // Adds the posting of what is used, where it is open.
-pub fn plus_used<K: CostKind>(
+fn plus_used<K: CostKind>(
     kind: &K,
     sum: Option<K::Cost>,
     used: bool,

@@ -5,12 +5,11 @@ use Rattle.std.proofs.lemmas.Result.{err_from_is_err_and}
 use Rattle.model.specs.Books.{Book}
 use Rattle.model.specs.Studies.{Model, model}
 use Rattle.model.proofs.Limited.{limited}
-use Rattle.planning.specs.declared.table.OptionRow.{OptionRow}
 use Rattle.planning.specs.Surveys.{choices_of, option_row}
 use Rattle.planning.proofs.Faults.{echelon_faults}
 use Rattle.planning.proofs.survey.option_row.Goals as goal
 
-is_row : (s : Model) (b : Book) (i : ℕ) (w x y z : Choices) → w ≡ choices_of s b i 1 → x ≡ choices_of s b i 2 → y ≡ choices_of s b i 3 → z ≡ choices_of s b i 4 → ◌≡◌ {A = OptionRow} (record { echelons = w ∷ x ∷ y ∷ z ∷ [] }) (option_row s b i)
+is_row : (s : Model) (b : Book) (i : ℕ) (w x y z : Choices) → w ≡ choices_of s b i 1 → x ≡ choices_of s b i 2 → y ≡ choices_of s b i 3 → z ≡ choices_of s b i 4 → w ∷ x ∷ y ∷ z ∷ [] ≡ option_row s b i
 is_row s b i w x y z h1 h2 h3 h4 = rw (h1, h2, h3, h4)
 
 pub returns-in_err-choices_at : goal.returns-in_err-choices_at

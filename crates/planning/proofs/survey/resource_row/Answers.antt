@@ -4,13 +4,12 @@ use Rattle.std.proofs.lemmas.Result.{err_from_is_err_and}
 use Rattle.model.specs.Books.{Book}
 use Rattle.model.specs.Studies.{Model, model}
 use Rattle.model.proofs.Limited.{limited}
-use Rattle.planning.specs.declared.table.ResourceRow.{ResourceRow}
 use Rattle.planning.specs.Surveys.{pair_posting, resource_row}
 use Rattle.planning.specs.Asking.{pair_question}
 use Rattle.planning.proofs.Faults.{echelon_faults}
 use Rattle.planning.proofs.survey.resource_row.Goals as goal
 
-is_row : (s : Model) (b : Book) (q : ℕ) (w x y z : Option Posting) → w ≡ pair_posting s b q 1 → x ≡ pair_posting s b q 2 → y ≡ pair_posting s b q 3 → z ≡ pair_posting s b q 4 → ◌≡◌ {A = ResourceRow} (record { echelons = w ∷ x ∷ y ∷ z ∷ [] }) (resource_row s b q)
+is_row : (s : Model) (b : Book) (q : ℕ) (w x y z : Option Posting) → w ≡ pair_posting s b q 1 → x ≡ pair_posting s b q 2 → y ≡ pair_posting s b q 3 → z ≡ pair_posting s b q 4 → w ∷ x ∷ y ∷ z ∷ [] ≡ resource_row s b q
 is_row s b q w x y z h1 h2 h3 h4 = rw (h1, h2, h3, h4)
 
 pub returns-in_err-pair_posting : goal.returns-in_err-pair_posting

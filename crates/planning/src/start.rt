@@ -1,0 +1,27 @@
+// Where a component starts, as a plan says: read off its parent's byte.
+ghost use Rattle.std.specs.Prelude.{◌≡◌};
+ghost use Rattle.plans.specs.Starts.{byte, repaired_at, start_under};
+
+// The byte of a component; 0 past the end of the plan.
+pub(crate) fn byte_of(plan: &[u8], number: usize) -> u8
+    ensures { result ≡ byte plan.now number }
+{
+    plan.get(number).copied().unwrap_or(0)
+}
+
+// The echelon at which a byte repairs, 0 where it does not.
+fn repaired_at(byte: u8) -> u8
+    ensures { result ≡ repaired_at byte }
+{
+    if byte % 2 == 0 { byte / 2 } else { 0 }
+}
+
+// The echelon where a component with that parent starts, 0 where the plan does not reach it.
+pub fn start_under(plan: &[u8], parent: Option<u8>) -> u8
+    ensures { result ≡ start_under plan.now parent }
+{
+    match parent {
+        None => 1,
+        Some(parent) => repaired_at(byte_of(plan, usize::from(parent))),
+    }
+}
