@@ -1,5 +1,9 @@
 -- Tests of every element of a list, and of every number below a limit.
-use Rattle.std.proofs.Common.{◌≡◌, ℕ, zero, suc, ◌+◌, ◌<◌, ◌≤◌, Bool, true, false, ◌&&◌, List, [], ◌∷◌, ◌++◌, sym, refl, ap, ◌∙◌, inl, inr, add-one, arith}
+use Rattle.std.proofs.Common.{◌≡◌, ℕ, zero, suc, ◌+◌, ◌<◌, ◌≤◌, Bool, true, false, ◌&&◌, List, [], ◌∷◌, ◌++◌, length, get_or, sym, refl, ap, ◌∙◌, inl, inr, add-one, arith}
+use Rattle.std.specs.Bool.{MatchBool}
+use Rattle.std.specs.List.{zip, range_with_len, AllWithin, HoldsAt}
+use Rattle.std.proofs.lemmas.Slice.Zip.{get_or-zip, length-zip}
+use Rattle.std.proofs.lemmas.List.FromFn.{get_or-range_with_len, length-range_with_len}
 use Rattle.std.proofs.lemmas.Bool.{cases_lt, and_from, and_left, and_right}
 use Rattle.plans.specs.Ranges.{upto, every}
 use Rattle.planning.specs.OpenRows.{every_below}
@@ -36,6 +40,33 @@ below_fails f k (suc n) l h =
       | inl m ↦ and_left (every_below f n) (f n) (below_fails f k n m h)
       | inr m ↦ let e : k ≡ n = omega arith in and_right (every_below f n) (f n) (ap f (sym e) ∙ h)
     ]
+
+-- all that pass
+below_all : (f : ℕ → Bool) (n : ℕ) → ((k : ℕ) → k < n → f k ≡ true) → every_below f n ≡ true
+below_all f zero each = refl
+below_all f (suc n) each = and_from (every_below f n) (f n) (below_all f n (λ k l. each k (omega arith))) (each n (omega arith))
+
+-- the answer of a test of each number from a on beside its row, of which there are n or more
+module _ {A : Type 0} (f : ℕ → A → Bool) (a n : ℕ) (number : ℕ → ℕ) (counts : (k : ℕ) → a + k ≡ number k) (rows : List A) (none : A) (long : n ≤ length rows) where
+  abbrev pairs : List (ℕ × A)
+  pairs = zip (range_with_len a n) rows
+
+  pair_at : (k : ℕ) → k < n → get_or pairs k (0, none) ≡ (number k, get_or rows k none)
+  pair_at k l =
+      let in_range : k < length (range_with_len a n) = omega (arith, length-range_with_len a n) in
+      let in_rows : k < length rows = omega arith in
+      get_or-zip (range_with_len a n) rows k (0, none) in_range in_rows ∙ ap (λ j. (j, get_or rows k none)) (get_or-range_with_len a n k 0 l ∙ counts k)
+
+  all_long : length pairs ≡ n
+  all_long = omega (arith, length-zip (range_with_len a n) rows, length-range_with_len a n)
+
+  pub every_from_all : (r : Bool) → MatchBool r (AllWithin (λ p. f p.0 p.1 ≡ true) pairs 0 (length pairs)) ((k : ℕ) × (k < length pairs) × HoldsAt (λ p. f p.0 p.1 ≡ false) pairs k) → r ≡ every_below (λ k. f (number k) (get_or rows k none)) n
+  every_from_all true all =
+      sym (below_all (λ k. f (number k) (get_or rows k none)) n (λ k l. rw (pair_at k l) at (all k (0, none) (omega arith) (omega (arith, all_long)))))
+  every_from_all false some =
+      let k = some.0 in
+      let l : k < n = omega (arith, some.1, all_long) in
+      sym (below_fails (λ j. f (number j) (get_or rows j none)) k n l (rw (pair_at k l) at (some.2 (0, none))))
 
 -- the same tests below the same limit
 pub below_same : (f g : ℕ → Bool) (n : ℕ) → ((k : ℕ) → k < n → f k ≡ g k) → every_below f n ≡ every_below g n

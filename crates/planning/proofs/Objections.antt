@@ -60,11 +60,11 @@ module _ (s : Model) (b : Book) (t : Survey) (plan : List ℕ) (i : ℕ) (limits
       ))
 
   -- the questions, put by the component's way and its rows, give its objection
-  pub objection_same : (x : Component) (w : Route) (e n : ℕ) (o q : Bool) (r : Option Refusal) → x ≡ component s i → w.start ≡ start_under plan x.parent → w.byte ≡ byte plan i → e ≡ s.echelons → n ≡ s.resources → o ≡ row_options w → q ≡ row_resources w x n → r ≡ first_failed i e w o q → r ≡ objection s b plan i
-  objection_same x w e n o q r same-x starts bytes same-e same-n options resources h =
+  pub objection_same : (x : Component) (w : Route) (e n : ℕ) (o q : Bool) → x ≡ component s i → w.start ≡ start_under plan x.parent → w.byte ≡ byte plan i → e ≡ s.echelons → n ≡ s.resources → o ≡ row_options w → q ≡ row_resources w x n → first_failed i e w o q ≡ objection s b plan i
+  objection_same x w e n o q same-x starts bytes same-e same-n options resources =
       let started = starts ∙ ap (λ (y : Component). start_under plan y.parent) same-x in
       let way = same_route w (start s plan i) (byte plan i) started bytes in
-      h ∙ ap (λ u. first_failed i e w u q) options ∙ ap (first_failed i e w (row_options w)) resources
+      ap (λ u. first_failed i e w u q) options ∙ ap (first_failed i e w (row_options w)) resources
       ∙ ap (λ f. failed f w x n) same-e ∙ ap (λ v. failed s.echelons v x n) way
       ∙ ap (λ y. failed s.echelons (route_of s plan i) y n) same-x
       ∙ ap (failed s.echelons (route_of s plan i) (component s i)) same-n ∙ rows_same

@@ -1,10 +1,8 @@
 // The questions that pricing puts to each component in turn.
-ghost use Rattle.std.specs.Prelude.{◌≡◌, ◌<◌, ◌≤◌};
+ghost use Rattle.std.specs.Prelude.{◌≡◌, ◌≤◌, Ok};
 ghost use Rattle.model.specs.Books.{Book};
 ghost use Rattle.model.specs.Studies.{model};
-ghost use Rattle.plans.specs.Questions.{count};
-ghost use Rattle.plans.specs.Postings.{component};
-ghost use Rattle.plans.specs.Prices.{objection, first_objection};
+ghost use Rattle.plans.specs.Prices.{first_objection, or_refuse};
 ghost use Rattle.planning.specs.Objections.{first_failed};
 ghost use Rattle.planning.specs.OpenRows.{posted_where, choices_open, options_open, resource_open, resources_open};
 ghost use Rattle.planning.specs.Surveys.{Keeps};
@@ -12,7 +10,7 @@ ghost use Rattle.planning.specs.Surveys.{Keeps};
 use crate::route::Route;
 use crate::table::{ByEchelon, Choices, Survey};
 use costs::posting::Posting;
-use model::component::{Component, Needs};
+use model::component::Needs;
 use model::question::RepairOption;
 use model::refusal::Refusal;
 use model::study::Study;
@@ -34,25 +32,20 @@ fn choices_open(route: Route, echelon: u8, choices: Choices) -> bool
 }
 
 // Whether every option that the component uses is open.
-fn options_open(route: Route, row: ByEchelon<Choices>) -> bool
-    ensures { result ≡ options_open route row }
+fn options_open(route: Route, row: &ByEchelon<Choices>) -> bool
+    ensures { result ≡ options_open route row.now }
 {
-    let [at_1, at_2, at_3, at_4] = row;
-    choices_open(route, 1, at_1)
-        && choices_open(route, 2, at_2)
-        && choices_open(route, 3, at_3)
-        && choices_open(route, 4, at_4)
+    (1..5).zip(row).all(|(echelon, choices)| choices_open(route, echelon, *choices))
 }
 
 // Whether that resource is open wherever the component needs it.
-fn resource_open(route: Route, needs: Needs, resource: u8, row: ByEchelon<Option<Posting>>) -> bool
-    ensures { result ≡ resource_open route needs resource row }
+fn resource_open(route: Route, needs: Needs, resource: u8, row: &ByEchelon<Option<Posting>>) -> bool
+    ensures { result ≡ resource_open route needs resource row.now }
 {
-    let [at_1, at_2, at_3, at_4] = row;
-    posted_where(route.needs(needs, 1, resource), at_1)
-        && posted_where(route.needs(needs, 2, resource), at_2)
-        && posted_where(route.needs(needs, 3, resource), at_3)
-        && posted_where(route.needs(needs, 4, resource), at_4)
+    (1..5).zip(row).all(|(echelon, posting)| posted_where(
+        route.needs(needs, echelon, resource),
+        *posting,
+    ))
 }
 
 // Whether every resource that the component needs is open.
@@ -60,21 +53,9 @@ fn resources_open(route: Route, needs: Needs, survey: &Survey, resources: u8) ->
     requires { resources ≤ 8 }
     ensures { result ≡ resources_open route needs survey.now.resources resources }
 {
-    for resource in 0..resources {
-        let row = survey.resources[usize::from(resource)];
-        if !resource_open(route, needs, resource, row) {
-            return false;
-        }
-    }
-    true
-}
-
-// The component of that number.
-fn component_of(study: &Study, number: usize) -> Component
-    requires { number < count (model study.now) }
-    ensures { result ≡ component (model study.now) number }
-{
-    study.components()[number]
+    (0..resources).zip(&survey.resources).all(|(resource, row)| resource_open(
+        route, needs, resource, row,
+    ))
 }
 
 // The first question that a component fails, by its way in the plan and whether its options and resources are open.
@@ -84,48 +65,37 @@ fn first_failed(
     route: Route,
     options: bool,
     resources: bool,
-) -> Option<Refusal>
+) -> Result<(), Refusal>
     requires { echelons ≤ 4 }
-    ensures { result ≡ first_failed component echelons route options resources }
+    ensures { result ≡ or_refuse (first_failed component echelons route options resources) (Ok tt) }
 {
     if route.byte > 2 * echelons {
-        return Some(Refusal::ByteTooLarge { component });
+        return Err(Refusal::ByteTooLarge { component });
     }
     if (route.byte != 0) != (route.start != 0) {
-        return Some(Refusal::ReachMismatch { component });
+        return Err(Refusal::ReachMismatch { component });
     }
     if route.last() < route.start {
-        return Some(Refusal::BeforeStart { component });
+        return Err(Refusal::BeforeStart { component });
     }
     if !options {
-        return Some(Refusal::OptionClosed { component });
+        return Err(Refusal::OptionClosed { component });
     }
     if !resources {
-        return Some(Refusal::ResourceClosed { component });
+        return Err(Refusal::ResourceClosed { component });
     }
-    None
+    Ok(())
 }
 
-// The objection to the component of that number, where there is one.
-fn objection(study: &Study, survey: &Survey, plan: &[u8], number: usize) -> Option<Refusal>
-    requires { number < count (model study.now) }
-    ensures { (b : Book) → Keeps (model study.now) b survey.now → result ≡ objection (model study.now) b plan.now number }
+// Objects to the first component that fails a question, by number; nothing where pricing goes on.
+pub(crate) fn first_objection(study: &Study, survey: &Survey, plan: &[u8]) -> Result<(), Refusal>
+    ensures { (b : Book) → Keeps (model study.now) b survey.now → result ≡ or_refuse (first_objection (model study.now) b plan.now) (Ok tt) }
 {
-    let component = component_of(study, number);
-    let route = Route::of(&component, plan, number);
-    let options = options_open(route, survey.options[number]);
-    let resources = resources_open(route, component.needs, survey, study.resources());
-    first_failed(number as u8, study.echelons(), route, options, resources)
-}
-
-// The objection to the first component that has one, by number; none where pricing goes on.
-pub(crate) fn first_objection(study: &Study, survey: &Survey, plan: &[u8]) -> Option<Refusal>
-    ensures { (b : Book) → Keeps (model study.now) b survey.now → result ≡ first_objection (model study.now) b plan.now }
-{
-    for number in 0..study.components().len() {
-        if let Some(refusal) = objection(study, survey, plan, number) {
-            return Some(refusal);
-        }
+    for (number, component) in study.components().iter().enumerate() {
+        let route = Route::of(component, plan, number);
+        let options = options_open(route, &survey.options[number]);
+        let resources = resources_open(route, component.needs, survey, study.resources());
+        first_failed(number as u8, study.echelons(), route, options, resources)?;
     }
-    None
+    Ok(())
 }

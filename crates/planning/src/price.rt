@@ -28,13 +28,8 @@ pub fn price<B: ChargeBook, K: CostKind>(
     if plan.len() < count {
         return Err(Refusal::ShortPlan);
     }
-    let survey = match survey(study, book) {
-        Ok(survey) => survey,
-        Err(fault) => return Err(Refusal::BookFault(fault)),
-    };
+    let survey = survey(study, book)?;
     let plan = &plan[0..count];
-    if let Some(objection) = first_objection(study, &survey, plan) {
-        return Err(objection);
-    }
+    first_objection(study, &survey, plan)?;
     total(kind, study, &survey, plan).ok_or(Refusal::NoComponent)
 }

@@ -1,26 +1,33 @@
-use Rattle.std.proofs.Common.{◌≡◌, ◌<◌, length, sym, ap, ◌∙◌, arith}
+use Rattle.std.proofs.Common.{◌<◌, length, ap, arith}
+use Rattle.std.proofs.lemmas.Result.{err_from_is_err_and}
 use Rattle.model.specs.Studies.{model}
+use Rattle.model.proofs.Limited.{limited}
 use Rattle.plans.specs.Prices.{objection}
 use Rattle.plans.specs.Questions.{count}
-use Rattle.plans.specs.Ranges.{first_below}
-use Rattle.planning.proofs.FirstBelow.{none_more, first_found}
+use Rattle.planning.proofs.FirstBelow.{passed, refused}
+use Rattle.planning.proofs.Needing.{component_read}
+use Rattle.planning.proofs.Objections.{objection_same}
 use Rattle.planning.proofs.checks.first_objection.Goals as goal
-
-pub returns-in-Some : goal.returns-in-Some
-returns-in-Some c b kept =
-    let s = model c.args.study.now in
-    let e = ap length c.components-number-end.ensures in
-    let inside : c.loop-number.number < count s = omega (arith, e, c.loop-number-test.true) in
-    first_found (objection s b c.args.plan.now) c.in-Some.refusal c.loop-number.number (count s) inside (c.loop-number.invariant b kept) (c.in-Some.ensures b kept)
 
 pub loop-number-preserved : goal.loop-number-preserved
 loop-number-preserved c b kept =
-    let s = model c.args.study.now in
-    none_more (objection s b c.args.plan.now) c.loop-number.number (c.loop-number.invariant b kept) (c.in_default.ensures b kept)
+    let study = c.args.study.now in
+    let s = model study in
+    let plan = c.args.plan.now in
+    let i = c.loop-number.number in
+    let lent = c.components-component-items.ensures in
+    let h : i < count s = omega (arith, ap length lent, c.loop-number-test.true) in
+    let same = objection_same s b c.args.survey.now plan i (limited study) kept h _ _ _ _ _ _ (component_read s _ i _ lent c.loop-number-test.true) c.of-route.ensures.start c.of-route.ensures.byte c.echelons.ensures c.resources.ensures c.options_open-options.ensures c.resources_open-resources.ensures in
+    passed (tt {0}) (objection s b plan) i (c.loop-number.invariant b kept) _ same c.in_ok-first_failed.ensures
 
-pub returns : goal.returns
-returns c b kept =
-    let s = model c.args.study.now in
-    let e = ap length c.components-number-end.ensures in
-    let all : c.loop-number.number ≡ count s = omega (arith, e) in
-    sym (c.loop-number.invariant b kept) ∙ ap (first_below (objection s b c.args.plan.now)) all
+pub returns-in_err-first_failed : goal.returns-in_err-first_failed
+returns-in_err-first_failed c b kept =
+    let study = c.args.study.now in
+    let s = model study in
+    let plan = c.args.plan.now in
+    let i = c.loop-number.number in
+    let lent = c.components-component-items.ensures in
+    let h : i < count s = omega (arith, ap length lent, c.loop-number-test.true) in
+    let same = objection_same s b c.args.survey.now plan i (limited study) kept h _ _ _ _ _ _ (component_read s _ i _ lent c.loop-number-test.true) c.of-route.ensures.start c.of-route.ensures.byte c.echelons.ensures c.resources.ensures c.options_open-options.ensures c.resources_open-resources.ensures in
+    let p = err_from_is_err_and c.from_residual.result c.from_residual.ensures.1 in
+    rw (p.1, p.2) (refused (tt {0}) (objection s b plan) i (c.loop-number.invariant b kept) _ same (count s) _ h c.in_err-first_failed.ensures)

@@ -1,20 +1,15 @@
-use Rattle.std.proofs.Common.{true, false, get_or, sym}
-use Rattle.planning.specs.OpenRows.{resource_open}
+use Rattle.std.proofs.Common.{◌≡◌, true, false, arith, rules, tests}
+use Rattle.std.proofs.lemmas.Iterator.{cases_from_all, YieldsList-from_slice, YieldsList-from_range, YieldsList-from_zip}
 use Rattle.planning.specs.Surveys.{no_resource}
-use Rattle.planning.proofs.Every.{below_passes, below_fails}
-use Rattle.planning.proofs.OpenRows.{row_read}
+use Rattle.planning.specs.OpenRows.{resource_open}
+use Rattle.planning.proofs.Every.{every_from_all}
 use Rattle.planning.proofs.checks.resources_open.Goals as goal
 
-pub loop-resource-preserved : goal.loop-resource-preserved
-loop-resource-preserved c =
+pub returns : goal.returns
+returns c =
     let rows = c.args.survey.now.resources in
-    let r = c.loop-resource.resource in
-    let here = row_read c.args.route c.args.needs rows r c.from.result true c.from.ensures c.if-not-resource_open.ensures in
-    below_passes (λ k. resource_open c.args.route c.args.needs k (get_or rows k no_resource)) r c.loop-resource.invariant here
-
-pub returns-then-not-resource_open : goal.returns-then-not-resource_open
-returns-then-not-resource_open c =
-    let rows = c.args.survey.now.resources in
-    let r = c.loop-resource.resource in
-    let here = row_read c.args.route c.args.needs rows r c.from.result false c.from.ensures c.if-not-resource_open.ensures in
-    sym (below_fails (λ k. resource_open c.args.route c.args.needs k (get_or rows k no_resource)) r c.args.resources c.loop-resource-test.true here)
+    let n = c.args.resources in
+    let test = resource_open c.args.route c.args.needs in
+    every_from_all test 0 n (λ k. k) (λ k. omega arith) rows no_resource (omega arith) c.all.result
+    (cases_from_all c.all.new.self _ _ (λ p. test p.0 p.1 ≡ true) (λ p. test p.0 p.1 ≡ false) c.all.ensures.ran
+    (YieldsList-from_zip (YieldsList-from_range 0 n n c.zip.ensures.first (omega arith)) (YieldsList-from_slice rows (search rules))) (λ x q k. search (rules, tests)) (λ x q k. search (rules, tests)))
