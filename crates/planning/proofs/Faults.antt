@@ -1,12 +1,11 @@
 -- The first fault where lists of questions are asked one after another.
-use Rattle.std.proofs.Common.{◌≡◌, ℕ, zero, suc, ◌+◌, ◌<◌, ◌≤◌, List, [], ◌∷◌, ◌++◌, Some, None, Option, sym, refl, ap, ◌∙◌, subst, inl, inr, append_assoc, append-nil, add-one, arith}
+use Rattle.std.proofs.Common.{◌≡◌, ℕ, zero, suc, ◌+◌, ◌<◌, ◌≤◌, List, [], ◌∷◌, ◌++◌, Some, None, Option, sym, refl, ap, ◌∙◌, subst, inl, inr, add-one, arith}
 use Rattle.std.proofs.lemmas.Bool.{cases_lt}
 use Rattle.model.specs.declared.question.Question.{Question}
 use Rattle.model.specs.declared.answer.Fault.{Fault}
 use Rattle.model.specs.Books.{Book}
 use Rattle.plans.specs.Ranges.{upto, or_else}
 use Rattle.plans.specs.Questions.{first_fault, fault_of}
-use Rattle.planning.specs.Asking.{asked_at}
 
 regroup : {A : Type 0} (x y z : Option A) → or_else x (or_else y z) ≡ or_else (or_else x y) z
 regroup None y z = refl
@@ -41,26 +40,3 @@ upto_stops b f (suc n) i {x} h p q =
           let q2 : first_fault b (f n) ≡ Some x = subst (λ k. first_fault b (f k) ≡ Some x) e q in
           past b (upto f n) (f n) p2 q2
     ]
-
--- what is asked at the echelons up to the last is what is asked at the echelons 1 to 4, where those past the last have
--- nothing
-four_echelons : (asks : ℕ → List Question) (last : ℕ) → last ≤ 4 → upto (λ k. asks (suc k)) last ≡ asked_at last asks 1 ++ (asked_at last asks 2 ++ (asked_at last asks 3 ++ asked_at last asks 4))
-four_echelons asks zero h = refl
-four_echelons asks (suc zero) h = sym (append-nil (asks 1))
-four_echelons asks (suc (suc zero)) h = ap (λ t. asks 1 ++ t) (sym (append-nil (asks 2)))
-four_echelons asks (suc (suc (suc zero))) h =
-    append_assoc (asks 1) (asks 2) (asks 3) ∙ ap (λ t. asks 1 ++ (asks 2 ++ t)) (sym (append-nil (asks 3)))
-four_echelons asks (suc (suc (suc (suc zero)))) h =
-    append_assoc (asks 1 ++ asks 2) (asks 3) (asks 4) ∙ append_assoc (asks 1) (asks 2) (asks 3 ++ asks 4)
-four_echelons asks (suc (suc (suc (suc (suc n))))) h = absurd (omega arith)
-
--- so the first fault is that of the first echelon that has one
-pub echelon_faults : (b : Book) (asks : ℕ → List Question) (last : ℕ) → last ≤ 4 → first_fault b (upto (λ k. asks (suc k)) last) ≡ or_else (first_fault b (asked_at last asks 1)) (or_else (first_fault b (asked_at last asks 2)) (or_else (first_fault b (asked_at last asks 3)) (first_fault b (asked_at last asks 4))))
-echelon_faults b asks last h =
-    let w = asked_at last asks 1 in
-    let x = asked_at last asks 2 in
-    let y = asked_at last asks 3 in
-    let z = asked_at last asks 4 in
-    ap (first_fault b) (four_echelons asks last h)
-    ∙ faults_append b w (x ++ (y ++ z))
-    ∙ ap (or_else (first_fault b w)) (faults_append b x (y ++ z) ∙ ap (or_else (first_fault b x)) (faults_append b y z))

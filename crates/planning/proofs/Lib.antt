@@ -9,5 +9,4 @@ pub mod Objections
 pub mod Faults
 pub mod Filled
 pub mod Posts
-pub mod Rates
 pub mod Answered

@@ -25,6 +25,10 @@ no_resource = []
 abbrev pub by_echelon : {A : Type 0} → (ℕ → A) → List A
 by_echelon f = f 1 ∷ f 2 ∷ f 3 ∷ f 4 ∷ []
 
+-- f at echelon e, and none past the last echelon
+abbrev pub until : {A : Type 0} → ℕ → A → (ℕ → A) → ℕ → A
+until last none f e = cond (nat_le e last) (f e) none
+
 -- component i at echelon e: nothing past the last echelon, and no move from it
 abbrev pub choices_of : Model → Book → ℕ → ℕ → Choices
 choices_of s b i e =

@@ -1,11 +1,14 @@
 // The survey of a book: every question of a study is asked once, in order, up to the first fault.
-ghost use Rattle.std.specs.Prelude.{◌≡◌, ◌<◌, ◌≤◌};
+ghost use Rattle.std.specs.Prelude.{◌≡◌, ℕ, ◌<◌, ◌≤◌, List, Result};
 ghost use Rattle.costs.specs.Postings.{Within};
+ghost use Rattle.model.specs.declared.answer.Fault.{Fault};
+ghost use Rattle.model.specs.declared.question.Question.{Question};
 ghost use Rattle.model.specs.declared.question.Question.TheVariants.{OfOption};
+ghost use Rattle.model.specs.Books.{Book};
 ghost use Rattle.model.specs.Studies.{model};
-ghost use Rattle.plans.specs.Questions.{count};
-ghost use Rattle.plans.specs.Postings.{component, posted};
-ghost use Rattle.planning.specs.Asking.{Learned, Postable, AskedChoices, AskedOptionRow, AskedOptions, AskedPair, AskedResourceRow, AskedResources};
+ghost use Rattle.plans.specs.Ranges.{upto};
+ghost use Rattle.plans.specs.Postings.{posted};
+ghost use Rattle.planning.specs.Asking.{Learned, Postable, Asked, Filled, AskedChoices, AskedOptionRow, AskedOptions, AskedPair, AskedResourceRow, AskedResources};
 ghost use Rattle.planning.specs.Surveys.{Surveyed};
 
 use crate::table::{ByEchelon, Choices, Survey};
@@ -45,15 +48,6 @@ fn learned(times: u32, answer: Answer) -> Result<Option<Posting>, Fault>
     }
 }
 
-// The rate of a component.
-fn rate_of(study: &Study, number: u8) -> u32
-    requires { number < count (model study.now) }
-    ensures value { result ≡ (component (model study.now) number).rate }
-    ensures limit { result ≤ 1_000_000 }
-{
-    study.components()[usize::from(number)].rate
-}
-
 // Asks for one option of a component at an echelon.
 fn option_posting<B: ChargeBook>(
     book: &B,
@@ -77,22 +71,20 @@ fn option_posting<B: ChargeBook>(
 
 // Asks for a component's options at one echelon: discard, repair and, unless it is the last, move.
 fn choices_at<B: ChargeBook>(
-    study: &Study,
     book: &B,
+    last: u8,
+    rate: u32,
     number: u8,
     echelon: u8,
 ) -> Result<Choices, Fault>
-    requires { number < count (model study.now) }
-    ensures { AskedChoices (model study.now) (B.meaning book.now) number echelon result }
+    requires { rate ≤ 1_000_000 }
+    ensures { AskedChoices (B.meaning book.now) last rate number echelon result }
 {
-    if echelon > study.echelons() {
-        return Ok(NO_CHOICES);
-    }
-    let rate = rate_of(study, number);
-    let discard = option_posting(book, rate, number, echelon, RepairOption::Discard)?;
-    let repair = option_posting(book, rate, number, echelon, RepairOption::Repair)?;
-    let moving = if echelon < study.echelons() {
-        option_posting(book, rate, number, echelon, RepairOption::Move)?
+    let ask = |option| option_posting(book, rate, number, echelon, option);
+    let discard = ask(RepairOption::Discard)?;
+    let repair = ask(RepairOption::Repair)?;
+    let moving = if echelon < last {
+        ask(RepairOption::Move)?
     } else {
         None
     };
@@ -103,63 +95,78 @@ fn choices_at<B: ChargeBook>(
     })
 }
 
-// Asks for a component's options at each echelon.
-fn option_row<B: ChargeBook>(
-    study: &Study,
-    book: &B,
-    number: u8,
-) -> Result<ByEchelon<Choices>, Fault>
-    requires { number < count (model study.now) }
-    ensures { AskedOptionRow (model study.now) (B.meaning book.now) number result }
-{
-    Ok([
-        choices_at(study, book, number, 1)?,
-        choices_at(study, book, number, 2)?,
-        choices_at(study, book, number, 3)?,
-        choices_at(study, book, number, 4)?,
-    ])
-}
-
-// Asks for the options of each component.
-fn option_rows<B: ChargeBook>(study: &Study, book: &B) -> Result<[ByEchelon<Choices>; 60], Fault>
-    ensures { AskedOptions (model study.now) (B.meaning book.now) result }
-{
-    let mut rows = [[NO_CHOICES; 4]; 60];
-    for number in 0..study.components().len() {
-        rows[number] = option_row(study, book, number as u8)?;
-    }
-    Ok(rows)
-}
-
 // Asks for a resource at one echelon. Its charge is for a year, and a posting counts a thousand.
 fn pair_posting<B: ChargeBook>(
-    study: &Study,
     book: &B,
     resource: u8,
     echelon: u8,
 ) -> Result<Option<Posting>, Fault>
-    ensures { AskedPair (model study.now) (B.meaning book.now) resource echelon result }
+    ensures { AskedPair (B.meaning book.now) resource echelon result }
 {
-    if echelon > study.echelons() {
-        return Ok(None);
-    }
     learned(1000, book.ask(Question::OfResource { resource, echelon }))
+}
+
+// Asks for the numbers below a count in turn, up to the first fault. The places after theirs stay as they are.
+fn asked<T: Copy, F: Fn(u8) -> Result<T, Fault>, const N: usize>(
+    count: u8,
+    places: [T; N],
+    ask: F,
+) -> Result<[T; N], Fault>
+    requires room { count ≤ N }
+    requires callable { (k : ℕ) → k < count → F.pre ask k }
+    ensures { (b : Book) (questions : ℕ → List Question) (kept : ℕ → T) → ((k : ℕ) (r : Result T Fault) → F.post ask k r → Asked b (questions k) (λ x. x ≡ kept k) r) → Asked b (upto questions count) (Filled kept count places) result }
+{
+    let mut filled = places;
+    for number in 0..count {
+        filled[usize::from(number)] = ask(number)?;
+    }
+    Ok(filled)
+}
+
+// Asks for a component's options at each echelon.
+fn option_row<B: ChargeBook>(
+    book: &B,
+    last: u8,
+    rate: u32,
+    number: u8,
+) -> Result<ByEchelon<Choices>, Fault>
+    requires few { last ≤ 4 }
+    requires rate { rate ≤ 1_000_000 }
+    ensures { AskedOptionRow (B.meaning book.now) last rate number result }
+{
+    asked(
+        last,
+        [NO_CHOICES; 4],
+        |place| choices_at(book, last, rate, number, place + 1),
+    )
+}
+
+// Asks for the options of each component.
+// Stays: a loop of its own, over the components; `asked` would look each of them up again by its number.
+fn option_rows<B: ChargeBook>(study: &Study, book: &B) -> Result<[ByEchelon<Choices>; 60], Fault>
+    ensures { AskedOptions (model study.now) (B.meaning book.now) result }
+{
+    let mut rows = [[NO_CHOICES; 4]; 60];
+    for (number, component) in study.components().iter().enumerate() {
+        rows[number] = option_row(book, study.echelons(), component.rate, number as u8)?;
+    }
+    Ok(rows)
 }
 
 // Asks for a resource at each echelon.
 fn resource_row<B: ChargeBook>(
-    study: &Study,
     book: &B,
+    last: u8,
     resource: u8,
 ) -> Result<ByEchelon<Option<Posting>>, Fault>
-    ensures { AskedResourceRow (model study.now) (B.meaning book.now) resource result }
+    requires { last ≤ 4 }
+    ensures { AskedResourceRow (B.meaning book.now) last resource result }
 {
-    Ok([
-        pair_posting(study, book, resource, 1)?,
-        pair_posting(study, book, resource, 2)?,
-        pair_posting(study, book, resource, 3)?,
-        pair_posting(study, book, resource, 4)?,
-    ])
+    asked(
+        last,
+        [None; 4],
+        |place| pair_posting(book, resource, place + 1),
+    )
 }
 
 // Asks for each resource.
@@ -169,11 +176,11 @@ fn resource_rows<B: ChargeBook>(
 ) -> Result<[ByEchelon<Option<Posting>>; 8], Fault>
     ensures { AskedResources (model study.now) (B.meaning book.now) result }
 {
-    let mut rows = [[None; 4]; 8];
-    for resource in 0..study.resources() {
-        rows[usize::from(resource)] = resource_row(study, book, resource)?;
-    }
-    Ok(rows)
+    asked(
+        study.resources(),
+        [[None; 4]; 8],
+        |resource| resource_row(book, study.echelons(), resource),
+    )
 }
 
 // Asks every question of the study: first for the options, then for the resources.

@@ -1,43 +1,49 @@
-use Rattle.std.proofs.Common.{◌≡◌, ◌<◌, length, None, refl, ap, subst, arith, length-set}
+use Rattle.std.proofs.Common.{◌≡◌, ℕ, ◌<◌, List, length, get_or, Ok, Err, Result, sym, ap, ◌∙◌, subst, arith, length-set}
 use Rattle.std.proofs.lemmas.Result.{err_from_is_err_and}
-use Rattle.model.specs.Studies.{model}
+use Rattle.model.specs.declared.answer.Fault.{Fault}
+use Rattle.model.specs.declared.component.Component.{Component}
+use Rattle.model.specs.Books.{Book}
+use Rattle.model.specs.Components.{no_component}
+use Rattle.model.specs.Studies.{Model, model}
 use Rattle.model.proofs.Limited.{limited}
-use Rattle.plans.specs.Ranges.{upto}
-use Rattle.plans.specs.Questions.{count, component_questions, first_fault}
+use Rattle.plans.specs.Questions.{count, component_questions}
+use Rattle.plans.specs.Postings.{component}
+use Rattle.planning.specs.declared.table.Choices.{Choices}
 use Rattle.planning.specs.Surveys.{no_options, option_row}
-use Rattle.planning.specs.Surveys.{OptionRows}
+use Rattle.planning.specs.Asking.{Asked, AskedOptionRow}
 use Rattle.planning.proofs.Faults.{upto_more, upto_stops}
 use Rattle.planning.proofs.Filled.{rows_more}
+use Rattle.planning.proofs.Needing.{component_read}
 use Rattle.planning.proofs.survey.option_rows.Goals as goal
 
-pub loop-number-init : goal.loop-number-init
-loop-number-init g c = (refl, refl, λ i h. absurd (omega arith))
+-- the row of component i of the study
+row_of : (s : Model) (b : Book) (i last : ℕ) (x : Component) (r : Result (List Choices) Fault) → last ≡ s.echelons → x ≡ component s i → AskedOptionRow b last x.rate i r → Asked b (component_questions s.echelons i) (λ row. row ≡ option_row s b i) r
+row_of s b i last x r e same asked =
+    subst (λ y. AskedOptionRow b s.echelons y.rate i r) same (subst (λ n. AskedOptionRow b n x.rate i r) e asked)
 
 pub returns-in_err-rows : goal.returns-in_err-rows
 returns-in_err-rows g c =
-    let s = c.args.study.now in
+    let s = model c.args.study.now in
+    let b = g.B.ChargeBook.meaning c.args.book.now in
     let i = c.loop-number.number in
-    let h : i < count (model s) = omega (arith, ap length c.components-number-end.ensures, c.loop-number-test.true) in
+    let lent = c.components-component-items.ensures in
+    let h : i < count s = omega (arith, ap length lent, c.loop-number-test.true) in
+    let here = row_of s b i _ (get_or c.components-component-items.result.now i no_component) (Err c.in_err-rows.field-0.0) c.echelons.ensures (component_read s _ i _ lent c.loop-number-test.true) c.in_err-rows.ensures in
     let p = err_from_is_err_and c.from_residual.result c.from_residual.ensures.1 in
-    rw (p.1, p.2) (upto_stops (g.B.ChargeBook.meaning c.args.book.now) (component_questions s.echelons) (count (model s)) i h c.loop-number.invariant.1 c.in_err-rows.ensures)
+    rw (p.1, p.2) (upto_stops b (component_questions s.echelons) (count s) i h c.loop-number.invariant.1.0 here)
 
 pub loop-number-preserved : goal.loop-number-preserved
 loop-number-preserved g c =
-    let s = c.args.study.now in
+    let s = model c.args.study.now in
     let b = g.B.ChargeBook.meaning c.args.book.now in
     let i = c.loop-number.number in
     let rows = c.loop-number.rows in
-    let h : i < length rows = omega (arith, ap length c.components-number-end.ensures, c.loop-number-test.true, c.loop-number.invariant.0, (limited s).few_components) in (
-      simp length-set c.loop-number.invariant.0,
-      upto_more b (component_questions s.echelons) i c.loop-number.invariant.1 c.in_ok-rows.ensures.0,
-      rows_more (option_row (model s) b) rows i c.in_ok-rows.field-0 no_options h c.loop-number.invariant.2 c.in_ok-rows.ensures.1,
-    )
-
-pub returns : goal.returns
-returns g c =
-    let s = c.args.study.now in
-    let b = g.B.ChargeBook.meaning c.args.book.now in
-    let e : c.loop-number.number ≡ count (model s) = omega (arith, ap length c.components-number-end.ensures, c.loop-number-test.false, c.loop-number.auto.number-end) in (
-      subst (λ n. first_fault b (upto (component_questions s.echelons) n) ≡ None) e c.loop-number.invariant.1,
-      subst (λ n. OptionRows (model s) b n c.loop-number.rows) e c.loop-number.invariant.2,
+    let lent = c.components-component-items.ensures in
+    let h : i < length rows = omega (arith, ap length lent, c.loop-number-test.true, c.loop-number.invariant.0, (limited c.args.study.now).few_components) in
+    let here = row_of s b i _ (get_or c.components-component-items.result.now i _) (Ok c.in_ok-rows.field-0) c.echelons.ensures (component_read s _ i _ lent c.loop-number-test.true) c.in_ok-rows.ensures in (
+      length-set rows i c.in_ok-rows.field-0 ∙ c.loop-number.invariant.0,
+      (
+        upto_more b (component_questions s.echelons) i c.loop-number.invariant.1.0 here.0,
+        rows_more (option_row s b) rows i c.in_ok-rows.field-0 no_options h c.loop-number.invariant.1.1 here.1,
+      ),
     )
