@@ -8,7 +8,7 @@ use Rattle.costs.specs.Postings.{Within, most}
 use Rattle.plans.specs.Ranges.{upto}
 use Rattle.plans.specs.Postings.{plus_posting, plus_postings, summed}
 use Rattle.plans.proofs.Joined.{sums_append}
-use Rattle.planning.specs.Sums.{Summable, Adds, if_used, of_resource, used_at}
+use Rattle.planning.specs.Sums.{Summable, Adds, if_used, at_four, of_resource, used_at}
 
 -- what holds of each of two joined lists
 all_parts : {A : Type 0} (P : A → Type 0) (xs ys : List A) → AllByRecursion P (xs ++ ys) → AllByRecursion P xs × AllByRecursion P ys
@@ -23,6 +23,39 @@ pub marked_row : {A : Type 0} (f : A → Bool) (marks : List A) (none : A) (row 
 marked_row f marks none row four =
     let at : (i : ℕ) → i < 4 → get_or (map f marks) i false ≡ f (get_or marks i none) = λ i l. get_or-map f marks i none false (omega arith) in
     rw (at 0 (omega arith), at 1 (omega arith), at 2 (omega arith), at 3 (omega arith))
+
+-- f at the numbers from n on, with what a row keeps for each
+abbrev pub numbered : {A : Type 0} → (ℕ → A → List Posting) → ℕ → List A → List Posting
+numbered f n [] = []
+numbered f n (x ∷ xs) = f n x ++ numbered f (n + 1) xs
+
+pub numbered_four : {A : Type 0} (f : ℕ → A → List Posting) (none : A) (row : List A) → length row ≡ 4 → numbered f 1 row ≡ at_four f none row
+numbered_four f none (w ∷ x ∷ y ∷ z ∷ []) four = ap (λ t. f 1 w ++ (f 2 x ++ (f 3 y ++ t))) (append-nil (f 4 z))
+numbered_four f none [] four = absurd (omega arith)
+numbered_four f none (w ∷ []) four = absurd (omega arith)
+numbered_four f none (w ∷ x ∷ []) four = absurd (omega arith)
+numbered_four f none (w ∷ x ∷ y ∷ []) four = absurd (omega arith)
+numbered_four f none (w ∷ x ∷ y ∷ z ∷ v ∷ row) four = absurd (omega arith)
+
+-- the postings of what is used, each beside the word whether it is
+abbrev pub beside : List Bool → List (Option Posting) → List Posting
+beside [] ps = []
+beside (u ∷ us) [] = []
+beside (u ∷ us) (p ∷ ps) = if_used u p ++ beside us ps
+
+pub beside_row : (us : List Bool) (ps : List (Option Posting)) → length us ≡ 4 → length ps ≡ 4 → beside us ps ≡ of_resource (used_at us) ps
+beside_row (a ∷ b ∷ c ∷ d ∷ []) (w ∷ x ∷ y ∷ z ∷ []) long four =
+    ap (λ t. if_used a w ++ (if_used b x ++ (if_used c y ++ t))) (append-nil (if_used d z))
+beside_row [] ps long four = absurd (omega arith)
+beside_row (a ∷ []) ps long four = absurd (omega arith)
+beside_row (a ∷ b ∷ []) ps long four = absurd (omega arith)
+beside_row (a ∷ b ∷ c ∷ []) ps long four = absurd (omega arith)
+beside_row (a ∷ b ∷ c ∷ d ∷ e ∷ us) ps long four = absurd (omega arith)
+beside_row (a ∷ b ∷ c ∷ d ∷ []) [] long four = absurd (omega arith)
+beside_row (a ∷ b ∷ c ∷ d ∷ []) (w ∷ []) long four = absurd (omega arith)
+beside_row (a ∷ b ∷ c ∷ d ∷ []) (w ∷ x ∷ []) long four = absurd (omega arith)
+beside_row (a ∷ b ∷ c ∷ d ∷ []) (w ∷ x ∷ y ∷ []) long four = absurd (omega arith)
+beside_row (a ∷ b ∷ c ∷ d ∷ []) (w ∷ x ∷ y ∷ z ∷ v ∷ ps) long four = absurd (omega arith)
 
 module _ {C : Type 0} (k : Adding C) where
   -- a sum of n postings, none where n is 0
@@ -75,6 +108,26 @@ module _ {C : Type 0} (k : Adding C) where
   -- the answer of a test, put into what is added where it passes
   pub adds_if : (a b : Option C) (t u : Bool) (p : Option Posting) → t ≡ u → Adds k a (if_used t p) b → Adds k a (if_used u p) b
   adds_if a b t u p same adds = subst (λ w. Adds k a (if_used w p) b) same adds
+
+  -- one more of those that stand side by side
+  pub adds_beside : (a b r : Option C) (us vs : List Bool) (ps qs : List (Option Posting)) (u : Bool) (p : Option Posting) → us ≡ u ∷ vs → ps ≡ p ∷ qs → Adds k a (if_used u p) b → Adds k b (beside vs qs) r → Adds k a (beside us ps) r
+  adds_beside a b r us vs ps qs u p e f first rest =
+      let joined : beside us ps ≡ if_used u p ++ beside vs qs = ap (λ x. beside x ps) e ∙ ap (beside (u ∷ vs)) f in
+      subst (λ t. Adds k a t r) (sym joined) (adds_then a b r (if_used u p) (beside vs qs) first rest)
+
+  -- one more of those that are numbered
+  pub adds_numbered : {A : Type 0} (f : ℕ → A → List Posting) (a b r : Option C) (n e m : ℕ) (xs ys : List A) (x : A) → e ≡ n → m ≡ n + 1 → xs ≡ x ∷ ys → Adds k a (f e x) b → Adds k b (numbered f m ys) r → Adds k a (numbered f n xs) r
+  adds_numbered f a b r n e m xs ys x here next more first rest =
+      let joined : numbered f n xs ≡ f e x ++ numbered f m ys = ap (numbered f n) more ∙ ap (λ j. f j x ++ numbered f (n + 1) ys) (sym here) ∙ ap (λ j. f e x ++ numbered f j ys) (sym next) in
+      subst (λ t. Adds k a t r) (sym joined) (adds_then a b r (f e x) (numbered f m ys) first rest)
+
+  pub adds_none_numbered : {A : Type 0} (f : ℕ → A → List Posting) (sum : Option C) (n : ℕ) (xs : List A) → length xs ≡ 0 → Adds k sum (numbered f n xs) sum
+  adds_none_numbered f sum n [] none = adds_none sum
+  adds_none_numbered f sum n (x ∷ xs) none = absurd (omega arith)
+
+  -- and none
+  pub adds_no_more : (sum : Option C) (us : List Bool) (ps : List (Option Posting)) → us ≡ [] → Adds k sum (beside us ps) sum
+  adds_no_more sum us ps e = subst (λ x. Adds k sum (beside x ps) sum) (sym e) (adds_none sum)
 
   -- one part more
   pub adds_more : (f : ℕ → List Posting) (a b c : Option C) (i : ℕ) (new : List Posting) → new ≡ f i → Adds k a (upto f i) b → Adds k b new c → Adds k a (upto f (i + 1)) c

@@ -1,5 +1,6 @@
 -- The sum over the components and over the resources, one after another, by their rows in the survey.
-use Rattle.std.proofs.Common.{◌≡◌, ℕ, ◌+◌, ◌<◌, List, [], get_or, None, Option, sym, refl, ap, ◌∙◌, subst, add-one}
+use Rattle.std.proofs.Common.{◌≡◌, ℕ, ◌+◌, ◌<◌, List, [], ◌∷◌, length, drop, get_or, None, Option, sym, refl, ap, ◌∙◌, subst, add-one}
+use Rattle.std.proofs.lemmas.List.{drop_more}
 use Rattle.costs.specs.declared.posting.Posting.{Posting}
 use Rattle.costs.specs.Kinds.{Adding}
 use Rattle.model.specs.declared.question.Question.{Question}
@@ -28,11 +29,17 @@ module _ (s : Model) (plan : List ℕ) (t : Survey) (limits : Limits s) where
       ∙ ap (of_component (start s plan i) (byte plan i)) (keeps.options i h)
       ∙ component_used s b plan i limits
 
-  pub resource_kept : (r j : ℕ) → r < s.resources → j ≡ r → (b : Book) → Keeps s b t → of_resource (λ e. uses s plan (OfResource r e)) (get_or t.resources j no_resource) ≡ used_postings s b plan (resource_questions s.echelons r)
-  resource_kept r j h same b keeps =
-      ap (λ n. of_resource (λ e. uses s plan (OfResource r e)) (get_or t.resources n no_resource)) same
-      ∙ ap (of_resource (λ e. uses s plan (OfResource r e))) (keeps.resources r h)
+  pub resource_kept : (r q : ℕ) (row : List (Option Posting)) → r < s.resources → q ≡ r → row ≡ get_or t.resources r no_resource → (b : Book) → Keeps s b t → of_resource (λ e. uses s plan (OfResource q e)) row ≡ used_postings s b plan (resource_questions s.echelons r)
+  resource_kept r q row h same read b keeps =
+      ap (λ n. of_resource (λ e. uses s plan (OfResource n e)) row) same
+      ∙ ap (of_resource (λ e. uses s plan (OfResource r e))) (read ∙ keeps.resources r h)
       ∙ resource_used s b plan r limits
+
+-- the next element of a list that is read from the front, and what is left
+pub next_read : {A : Type 0} (xs : List A) (i j : ℕ) (none x : A) (rest ys : List A) → i < length xs → rest ≡ drop i xs → rest ≡ x ∷ ys → j ≡ i + 1 → (ys ≡ drop j xs) × (x ≡ get_or xs i none)
+next_read xs i j none x rest ys h left takes next =
+    let split : get_or xs i none ∷ drop (i + 1) xs ≡ x ∷ ys = sym (drop_more xs i none h) ∙ sym left ∙ takes in
+    (cc, cc)
 
 module _ {C : Type 0} (k : Adding C) (s : Model) (plan : List ℕ) (t : Survey) where
   -- before the first nothing is added

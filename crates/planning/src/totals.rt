@@ -58,8 +58,7 @@ fn plus_pairs<K: CostKind>(
     ensures { AddsUsed K.adding (model study.now) survey.now plan.now options (pair_questions (model study.now)) result }
 {
     let mut sum = options;
-    for resource in 0..study.resources() {
-        let row = &survey.resources[usize::from(resource)];
+    for (resource, row) in (0..study.resources()).zip(&survey.resources) {
         sum = plus_resource(kind, sum, study, plan, resource, row);
     }
     sum
@@ -74,11 +73,11 @@ fn plus_component<K: CostKind>(
 ) -> Option<K::Cost>
     ensures { Adds K.adding sum (of_component route.start route.byte row.now) result }
 {
-    let [first, second, third, fourth] = *row;
-    let sum = plus_echelon(kind, sum, route, 1, first);
-    let sum = plus_echelon(kind, sum, route, 2, second);
-    let sum = plus_echelon(kind, sum, route, 3, third);
-    plus_echelon(kind, sum, route, 4, fourth)
+    let mut total = sum;
+    for (echelon, choices) in (1..5).zip(row) {
+        total = plus_echelon(kind, total, route, echelon, *choices);
+    }
+    total
 }
 
 // Adds what a component uses at one echelon: discard, repair, move.
@@ -124,8 +123,8 @@ pub fn plus_row<K: CostKind>(
     ensures { Adds K.adding sum (of_resource (used_at used) row.now) result }
 {
     let mut total = sum;
-    for (place, posting) in row.iter().enumerate() {
-        total = plus_used(kind, total, used[place], *posting);
+    for (used, posting) in used.iter().zip(row) {
+        total = plus_used(kind, total, *used, *posting);
     }
     total
 }

@@ -3,7 +3,7 @@ use Rattle.std.proofs.lemmas.Result.{err_from_is_err_and}
 use Rattle.plans.specs.Ranges.{upto}
 use Rattle.planning.specs.Asking.{Asked, Filled}
 use Rattle.planning.proofs.Faults.{upto_more, upto_stops}
-use Rattle.planning.proofs.Filled.{filled_none, filled_more}
+use Rattle.planning.proofs.Filled.{filled_more}
 use Rattle.planning.proofs.survey.asked.Goals as goal
 
 pub returns-in_err-filled : goal.returns-in_err-filled

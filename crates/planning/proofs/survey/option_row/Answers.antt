@@ -1,4 +1,4 @@
-use Rattle.std.proofs.Common.{◌≡◌, suc, ◌+◌, add-one, rules}
+use Rattle.std.proofs.Common.{suc, ◌+◌, add-one, rules}
 use Rattle.plans.specs.Questions.{echelon_questions, component_questions}
 use Rattle.planning.specs.Surveys.{no_choices}
 use Rattle.planning.specs.Asking.{AskedChoices, offered}

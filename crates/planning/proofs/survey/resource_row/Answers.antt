@@ -1,4 +1,4 @@
-use Rattle.std.proofs.Common.{◌≡◌, suc, ◌+◌, None, add-one, rules}
+use Rattle.std.proofs.Common.{suc, ◌+◌, None, add-one, rules}
 use Rattle.plans.specs.Questions.{resource_questions}
 use Rattle.planning.specs.Asking.{AskedPair, pair_question, held_posting}
 use Rattle.planning.proofs.Filled.{row_asked}

@@ -1,9 +1,9 @@
-use Rattle.std.proofs.Common.{◌≡◌, [], ◌∷◌, None, subst, rules}
+use Rattle.std.proofs.Common.{subst, rules}
 use Rattle.model.specs.Studies.{model}
 use Rattle.plans.specs.Ranges.{upto}
-use Rattle.plans.specs.Questions.{resource_questions, pair_questions}
+use Rattle.plans.specs.Questions.{resource_questions}
 use Rattle.planning.specs.Surveys.{no_resource, resource_row, ResourceRows}
-use Rattle.planning.specs.Asking.{Asked, Filled}
+use Rattle.planning.specs.Asking.{Asked}
 use Rattle.planning.proofs.Filled.{asked_as}
 use Rattle.planning.proofs.survey.resource_rows.Goals as goal
 

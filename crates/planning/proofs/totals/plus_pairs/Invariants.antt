@@ -1,3 +1,6 @@
+use Rattle.std.proofs.Common.{◌≡◌, ◌≤◌, drop}
+use Rattle.std.specs.Iterator.Adapters.{zip_first, zip_second}
+use Rattle.std.specs.Slice.Iter.{iter_rest}
 use Rattle.model.specs.Studies.{model}
 use Rattle.plans.specs.Ranges.{upto}
 use Rattle.plans.specs.Questions.{resource_questions}
@@ -6,4 +9,9 @@ use Rattle.planning.proofs.totals.plus_pairs.Given as goal
 
 -- the resources so far are added
 abbrev pub invariant-loop-resource : goal.invariant-loop-resource
-invariant-loop-resource g l = AddsUsed g.K.CostKind.adding (model l.study) l.survey l.plan l.initial.sum (upto (resource_questions l.study.echelons) l.resource) l.sum
+invariant-loop-resource g l =
+    let left = zip_first l.resource-iterator in
+    (left.end ≡ (model l.study).resources)
+    × (left.start ≤ left.end)
+    × (iter_rest (zip_second l.resource-iterator) ≡ drop left.start l.survey.resources)
+    × AddsUsed g.K.CostKind.adding (model l.study) l.survey l.plan l.initial.sum (upto (resource_questions l.study.echelons) left.start) l.sum

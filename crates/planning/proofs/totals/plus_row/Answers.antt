@@ -1,13 +1,21 @@
-use Rattle.std.proofs.Common.{◌≡◌, suc, get_or, None, refl, arith}
-use Rattle.planning.specs.Sums.{if_used, used_at}
-use Rattle.planning.proofs.Adding.{adds_more, adds_all_four}
+use Rattle.std.proofs.Common.{◌≡◌, length, ap, subst, arith}
+use Rattle.std.proofs.lemmas.Iterator.{empty_from_Zip}
+use Rattle.planning.specs.Sums.{Adds}
+use Rattle.planning.proofs.Adding.{beside_row, adds_beside, adds_no_more}
 use Rattle.planning.proofs.totals.plus_row.Goals as goal
 
-pub loop-place-preserved : goal.loop-place-preserved
-loop-place-preserved g c =
-    adds_more g.K.CostKind.adding (λ k. if_used (used_at c.args.used (suc k)) (get_or c.args.row.now k None)) _ _ _ _ _ refl c.loop-place.invariant c.plus_used-total.ensures
+pub loop-used-preserved : goal.loop-used-preserved
+loop-used-preserved g c =
+    let us = c.in-Some.ensures.steps.0 in
+    let ps = c.in-Some.ensures.steps.1 in (
+      omega (arith, ap length us, ap length ps, c.loop-used.invariant.0),
+      λ r rest. c.loop-used.invariant.1 r (adds_beside g.K.CostKind.adding _ _ r _ _ _ _ _ _ us ps c.plus_used-total.ensures rest),
+    )
 
 pub returns : goal.returns
 returns g c =
-    let all : c.loop-place.place ≡ 4 = omega arith in
-    adds_all_four g.K.CostKind.adding (λ k. if_used (used_at c.args.used (suc k)) (get_or c.args.row.now k None)) _ _ _ all c.loop-place.invariant
+    let k = g.K.CostKind.adding in
+    let spent = empty_from_Zip _ c.next.new.self _ c.in-None.is c.next.ensures.steps c.loop-used.invariant.0 in
+    let all = c.loop-used.invariant.1 c.loop-used.total (adds_no_more k c.loop-used.total _ _ spent.0) in
+    let long : length c.args.used ≡ 4 = omega arith in
+    subst (λ new. Adds k c.args.sum new c.loop-used.total) (beside_row c.args.used c.args.row.now long (omega arith)) all

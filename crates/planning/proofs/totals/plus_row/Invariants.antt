@@ -1,9 +1,13 @@
-use Rattle.std.proofs.Common.{suc, get_or, None}
-use Rattle.plans.specs.Ranges.{upto}
-use Rattle.planning.specs.Sums.{Adds, if_used, used_at}
+use Rattle.std.proofs.Common.{◌≡◌, length}
+use Rattle.std.specs.Iterator.Adapters.{zip_first, zip_second}
+use Rattle.std.specs.Slice.Iter.{iter_rest}
+use Rattle.planning.specs.Sums.{Adds}
+use Rattle.planning.proofs.Adding.{beside}
 use Rattle.planning.proofs.totals.plus_row.Given as goal
 
--- the echelons so far are added
-abbrev pub invariant-loop-place : goal.invariant-loop-place
-invariant-loop-place g l =
-    Adds g.K.CostKind.adding l.fn.sum (upto (λ k. if_used (used_at l.used (suc k)) (get_or l.row k None)) l.place) l.total
+-- what is left to add, added to the total so far, is all that the row adds
+abbrev pub invariant-loop-used : goal.invariant-loop-used
+invariant-loop-used g l =
+    let us = iter_rest (zip_first l.used-iterator) in
+    let ps = iter_rest (zip_second l.used-iterator) in
+    (length us ≡ length ps) × ((r : _) → Adds g.K.CostKind.adding l.total (beside us ps) r → Adds g.K.CostKind.adding l.fn.sum (beside l.fn.used l.row) r)
