@@ -1,7 +1,6 @@
 -- Postings added to a sum: one, and one list after another.
-use Rattle.std.proofs.Common.{◌≡◌, ℕ, pred, ◌+◌, ◌<◌, ◌≤◌, Bool, false, List, map, get_or, [], ◌∷◌, ◌++◌, length, Some, None, Option, sym, refl, ap, ◌∙◌, subst, append_assoc, append-nil, add-one, arith, length-append}
+use Rattle.std.proofs.Common.{◌≡◌, ℕ, ◌+◌, ◌≤◌, Bool, List, [], ◌∷◌, ◌++◌, length, Some, None, Option, sym, refl, ap, ◌∙◌, subst, append_assoc, append-nil, add-one, arith, length-append}
 use Rattle.std.specs.List.{AllByRecursion}
-use Rattle.std.proofs.lemmas.List.{get_or-map}
 use Rattle.costs.specs.declared.posting.Posting.{Posting}
 use Rattle.costs.specs.Kinds.{Adding, SumOf, one, join}
 use Rattle.costs.specs.Postings.{Within, most}
@@ -17,12 +16,6 @@ all_parts P (x ∷ xs) ys all = let rest = all_parts P xs ys all.1 in ((all.0, r
 
 pub summable_front : (ps qs : List Posting) → Summable (ps ++ qs) → Summable ps
 summable_front ps qs fit = ((all_parts Within ps qs fit.0).0, omega (arith, fit.1, length-append ps qs))
-
--- a row's postings, by a list that f gives of four marks
-pub marked_row : {A : Type 0} (f : A → Bool) (marks : List A) (none : A) (row : List (Option Posting)) → length marks ≡ 4 → of_resource (used_at (map f marks)) row ≡ of_resource (λ e. f (get_or marks (pred e) none)) row
-marked_row f marks none row four =
-    let at : (i : ℕ) → i < 4 → get_or (map f marks) i false ≡ f (get_or marks i none) = λ i l. get_or-map f marks i none false (omega arith) in
-    rw (at 0 (omega arith), at 1 (omega arith), at 2 (omega arith), at 3 (omega arith))
 
 -- f at the numbers from n on, with what a row keeps for each
 abbrev pub numbered : {A : Type 0} → (ℕ → A → List Posting) → ℕ → List A → List Posting
@@ -134,12 +127,5 @@ module _ {C : Type 0} (k : Adding C) where
   adds_more f a b c i new is so_far next =
       subst (λ n. Adds k a (upto f n) c) (sym (add-one i)) (adds_then a b c (upto f i) (f i) so_far (subst (λ ps. Adds k b ps c) is next))
 
-  -- four parts are all
-  pub adds_all_four : (f : ℕ → List Posting) (a b : Option C) (i : ℕ) → i ≡ 4 → Adds k a (upto f i) b → Adds k a (f 0 ++ (f 1 ++ (f 2 ++ f 3))) b
-  adds_all_four f a b i four = subst (λ ps. Adds k a ps b) (ap (upto f) four ∙ append_assoc (f 0 ++ f 1) (f 2) (f 3) ∙ append_assoc (f 0) (f 1) (f 2 ++ f 3))
-
   pub adds_three : (a b c d : Option C) (xs ys zs : List Posting) → Adds k a xs b → Adds k b ys c → Adds k c zs d → Adds k a (xs ++ (ys ++ zs)) d
   adds_three a b c d xs ys zs first second third = adds_then a b d xs (ys ++ zs) first (adds_then b c d ys zs second third)
-
-  pub adds_four : (a b c d e : Option C) (ws xs ys zs : List Posting) → Adds k a ws b → Adds k b xs c → Adds k c ys d → Adds k d zs e → Adds k a (ws ++ (xs ++ (ys ++ zs))) e
-  adds_four a b c d e ws xs ys zs first second third fourth = adds_then a b e ws (xs ++ (ys ++ zs)) first (adds_three b c d e xs ys zs second third fourth)

@@ -1,5 +1,5 @@
 -- Tests of every element of a list, and of every number below a limit.
-use Rattle.std.proofs.Common.{◌≡◌, ℕ, zero, suc, ◌+◌, ◌<◌, ◌≤◌, Bool, true, false, ◌&&◌, List, [], ◌∷◌, ◌++◌, length, get_or, sym, refl, ap, ◌∙◌, inl, inr, add-one, arith}
+use Rattle.std.proofs.Common.{◌≡◌, ℕ, zero, suc, ◌+◌, ◌<◌, ◌≤◌, Bool, true, false, ◌&&◌, List, [], ◌∷◌, ◌++◌, length, get_or, sym, refl, ap, ◌∙◌, inl, inr, arith}
 use Rattle.std.specs.Bool.{MatchBool}
 use Rattle.std.specs.List.{zip, range_with_len, AllWithin, HoldsAt}
 use Rattle.std.proofs.lemmas.Slice.Zip.{get_or-zip, length-zip}
@@ -27,10 +27,6 @@ every_append f (x ∷ xs) ys = ap (λ b. f x && b) (every_append f xs ys) ∙ sy
 pub every_upto : {A : Type 0} (f : A → Bool) (g : ℕ → List A) (n : ℕ) → every f (upto g n) ≡ every_below (λ k. every f (g k)) n
 every_upto f g zero = refl
 every_upto f g (suc n) = every_append f (upto g n) (g n) ∙ ap (λ b. b && every f (g n)) (every_upto f g n)
-
--- one more that passes
-pub below_passes : (f : ℕ → Bool) (k : ℕ) → every_below f k ≡ true → f k ≡ true → every_below f (k + 1) ≡ true
-below_passes f k below here = rw add-one (and_from (every_below f k) (f k) below here)
 
 -- one that fails is enough
 pub below_fails : (f : ℕ → Bool) (k n : ℕ) → k < n → f k ≡ false → every_below f n ≡ false

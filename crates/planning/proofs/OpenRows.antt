@@ -53,10 +53,6 @@ module _ (w : Route) (last e : ℕ) (few : w.byte ≤ 2 * last) where
       let by : (o : RepairOption) → needs_on w n r e o ≡ false = λ o. ap (λ u. u && needs_resource n o r) (unused o past) in
       or_from _ _ (by Discard) (or_from _ _ (by Repair) (by Move))
 
--- the row of resource r, read at a number that equals r
-pub row_read : (w : Route) (n : Needs) (rows : List (List (Option Posting))) (r k : ℕ) (v : Bool) → k ≡ r → v ≡ resource_open w n r (get_or rows k no_resource) → resource_open w n r (get_or rows r no_resource) ≡ v
-row_read w n rows r k v e h = sym (h ∙ ap (λ j. resource_open w n r (get_or rows j no_resource)) e)
-
 -- the way of component i in a plan
 abbrev pub route_of : Model → List ℕ → ℕ → Route
 route_of s plan i = record { start = start s plan i; byte = byte plan i }
