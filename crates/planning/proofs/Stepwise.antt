@@ -1,6 +1,7 @@
 -- The sum over the components and over the resources, one after another, by their rows in the survey.
-use Rattle.std.proofs.Common.{◌≡◌, ℕ, ◌+◌, ◌<◌, List, [], ◌∷◌, length, drop, get_or, None, Option, sym, refl, ap, ◌∙◌, subst, add-one}
-use Rattle.std.proofs.lemmas.List.{drop_more}
+use Rattle.std.proofs.Common.{◌≡◌, ℕ, ◌+◌, ◌<◌, ◌≤◌, List, [], ◌∷◌, length, drop, get_or, None, Option, sym, refl, ap, ◌∙◌, subst, add-one, inl, inr, arith}
+use Rattle.std.proofs.lemmas.List.{drop_more, get_or_past}
+use Rattle.std.proofs.lemmas.Bool.{cases_lt}
 use Rattle.costs.specs.declared.posting.Posting.{Posting}
 use Rattle.costs.specs.Kinds.{Adding}
 use Rattle.model.specs.declared.question.Question.{Question}
@@ -15,7 +16,7 @@ use Rattle.plans.specs.Starts.{byte, start}
 use Rattle.plans.specs.Uses.{uses}
 use Rattle.plans.proofs.Counting.{postings_fit}
 use Rattle.planning.specs.declared.table.Survey.{Survey}
-use Rattle.planning.specs.Surveys.{no_options, no_resource, Keeps}
+use Rattle.planning.specs.Surveys.{no_options, no_resource, resource_row, Keeps}
 use Rattle.planning.specs.Sums.{Adds, AddsUsed, of_component, of_resource, used_postings}
 use Rattle.planning.proofs.Adding.{adds_none, adds_then}
 use Rattle.planning.proofs.Kept.{used_append, component_used, resource_used}
@@ -34,6 +35,21 @@ module _ (s : Model) (plan : List ℕ) (t : Survey) (limits : Limits s) where
       ap (λ n. of_resource (λ e. uses s plan (OfResource n e)) row) same
       ∙ ap (of_resource (λ e. uses s plan (OfResource r e))) (read ∙ keeps.resources r h)
       ∙ resource_used s b plan r limits
+
+-- a survey has a row for each resource of the study
+row_there : (s : Model) (b : Book) (t : Survey) → Keeps s b t → (r : ℕ) → r < s.resources → r < length t.resources
+row_there s b t kept r h =
+    elim (cases_lt r (length t.resources)) [
+      | inl l ↦ l
+      | inr g ↦
+          let none : no_resource ≡ resource_row s b r = sym (get_or_past t.resources r no_resource g) ∙ kept.resources r h in
+          absurd (omega (arith, ap length none))
+    ]
+
+-- where the rows have come to their end, so have the resources
+pub all_read : (s : Model) (b : Book) (t : Survey) → Keeps s b t → (r : ℕ) → r ≤ s.resources → length t.resources ≤ r → r ≡ s.resources
+all_read s b t kept r h past =
+    elim (cases_lt r s.resources) [ inl l ↦ absurd (omega (arith, row_there s b t kept r l)) | inr g ↦ omega arith ]
 
 -- the next element of a list that is read from the front, and what is left
 pub next_read : {A : Type 0} (xs : List A) (i j : ℕ) (none x : A) (rest ys : List A) → i < length xs → rest ≡ drop i xs → rest ≡ x ∷ ys → j ≡ i + 1 → (ys ≡ drop j xs) × (x ≡ get_or xs i none)

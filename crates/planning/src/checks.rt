@@ -7,13 +7,13 @@ ghost use Rattle.planning.specs.Objections.{first_failed};
 ghost use Rattle.planning.specs.OpenRows.{posted_where, choices_open, options_open, resource_open, resources_open};
 ghost use Rattle.planning.specs.Surveys.{Keeps};
 
+use crate::draft::Draft;
 use crate::route::Route;
 use crate::table::{ByEchelon, Choices, Survey};
 use costs::posting::Posting;
 use model::component::Needs;
 use model::question::RepairOption;
 use model::refusal::Refusal;
-use model::study::Study;
 
 // Whether what is used has a posting, and so is open.
 fn posted_where(used: bool, posting: Option<Posting>) -> bool
@@ -87,15 +87,28 @@ fn first_failed(
     Ok(())
 }
 
-// Objects to the first component that fails a question, by number; nothing where pricing goes on.
-pub(crate) fn first_objection(study: &Study, survey: &Survey, plan: &[u8]) -> Result<(), Refusal>
-    ensures { (b : Book) → Keeps (model study.now) b survey.now → result ≡ or_refuse (first_objection (model study.now) b plan.now) (Ok tt) }
-{
-    for (number, component) in study.components().iter().enumerate() {
-        let route = Route::of(component, plan, number);
-        let options = options_open(route, &survey.options[number]);
-        let resources = resources_open(route, component.needs, survey, study.resources());
-        first_failed(number as u8, study.echelons(), route, options, resources)?;
+impl Draft<'_> {
+    // Objects to the first component that fails a question, by number; nothing where pricing goes on.
+    pub(crate) fn first_objection(&self) -> Result<(), Refusal>
+        ensures { (b : Book) → Keeps (model self.now.study.now) b self.now.survey.now → result ≡ or_refuse (first_objection (model self.now.study.now) b self.now.plan.now) (Ok tt) }
+    {
+        for (number, component) in self.study.components().iter().enumerate() {
+            let route = Route::of(component, self.plan, number);
+            let options = options_open(route, &self.survey.options[number]);
+            let resources = resources_open(
+                route,
+                component.needs,
+                self.survey,
+                self.study.resources(),
+            );
+            first_failed(
+                number as u8,
+                self.study.echelons(),
+                route,
+                options,
+                resources,
+            )?;
+        }
+        Ok(())
     }
-    Ok(())
 }

@@ -3,6 +3,7 @@
 
 mod checks;
 pub mod decision;
+mod draft;
 pub mod laws;
 pub mod price;
 mod route;

@@ -3,9 +3,8 @@ ghost use Rattle.std.specs.Prelude.{◌≡◌};
 ghost use Rattle.model.specs.Studies.{model};
 ghost use Rattle.plans.specs.Prices.{priced, Ready, AcceptsExactlyPlans};
 
-use crate::checks::first_objection;
+use crate::draft::Draft;
 use crate::survey::survey;
-use crate::totals::total;
 use costs::kind::CostKind;
 use model::book::ChargeBook;
 use model::refusal::Refusal;
@@ -29,7 +28,11 @@ pub fn price<B: ChargeBook, K: CostKind>(
         return Err(Refusal::ShortPlan);
     }
     let survey = survey(study, book)?;
-    let plan = &plan[0..count];
-    first_objection(study, &survey, plan)?;
-    total(kind, study, &survey, plan).ok_or(Refusal::NoComponent)
+    let draft = Draft {
+        study,
+        survey: &survey,
+        plan: &plan[0..count],
+    };
+    draft.first_objection()?;
+    draft.total(kind).ok_or(Refusal::NoComponent)
 }

@@ -10,58 +10,44 @@ ghost use Rattle.plans.specs.Plans.{postings};
 ghost use Rattle.planning.specs.Surveys.{Keeps};
 ghost use Rattle.planning.specs.Sums.{Adds, AddsUsed, if_used, at_echelon, of_component, of_resource, used_at};
 
+use crate::draft::Draft;
 use crate::route::Route;
-use crate::table::{ByEchelon, Choices, Survey};
+use crate::table::{ByEchelon, Choices};
 use costs::kind::CostKind;
 use costs::posting::Posting;
 use model::question::RepairOption;
 use model::study::Study;
 
-// The sum of a plan's postings, none where it uses nothing.
-pub(crate) fn total<K: CostKind>(
-    kind: &K,
-    study: &Study,
-    survey: &Survey,
-    plan: &[u8],
-) -> Option<K::Cost>
-    ensures { (b : Book) → KeepsLimits b → Keeps (model study.now) b survey.now → result ≡ summed K.adding (postings (model study.now) b plan.now) }
-{
-    let options = options_total(kind, study, survey, plan);
-    plus_pairs(kind, options, study, survey, plan)
-}
-
-// The sum of the postings of options, by component.
-fn options_total<K: CostKind>(
-    kind: &K,
-    study: &Study,
-    survey: &Survey,
-    plan: &[u8],
-) -> Option<K::Cost>
-    ensures { AddsUsed K.adding (model study.now) survey.now plan.now None (option_questions (model study.now)) result }
-{
-    let mut sum = None;
-    for (number, component) in study.components().iter().enumerate() {
-        let route = Route::of(component, plan, number);
-        sum = plus_component(kind, sum, route, &survey.options[number]);
+impl Draft<'_> {
+    // The sum of the plan's postings, none where it uses nothing.
+    pub(crate) fn total<K: CostKind>(&self, kind: &K) -> Option<K::Cost>
+        ensures { (b : Book) → KeepsLimits b → Keeps (model self.now.study.now) b self.now.survey.now → result ≡ summed K.adding (postings (model self.now.study.now) b self.now.plan.now) }
+    {
+        self.plus_pairs(kind, self.options_total(kind))
     }
-    sum
-}
 
-// Adds the postings of pairs of a resource and an echelon, by resource.
-fn plus_pairs<K: CostKind>(
-    kind: &K,
-    options: Option<K::Cost>,
-    study: &Study,
-    survey: &Survey,
-    plan: &[u8],
-) -> Option<K::Cost>
-    ensures { AddsUsed K.adding (model study.now) survey.now plan.now options (pair_questions (model study.now)) result }
-{
-    let mut sum = options;
-    for (resource, row) in (0..study.resources()).zip(&survey.resources) {
-        sum = plus_resource(kind, sum, study, plan, resource, row);
+    // The sum of the postings of options, by component.
+    fn options_total<K: CostKind>(&self, kind: &K) -> Option<K::Cost>
+        ensures { AddsUsed K.adding (model self.now.study.now) self.now.survey.now self.now.plan.now None (option_questions (model self.now.study.now)) result }
+    {
+        let mut sum = None;
+        for (number, component) in self.study.components().iter().enumerate() {
+            let route = Route::of(component, self.plan, number);
+            sum = plus_component(kind, sum, route, &self.survey.options[number]);
+        }
+        sum
     }
-    sum
+
+    // Adds the postings of pairs of a resource and an echelon, by resource.
+    fn plus_pairs<K: CostKind>(&self, kind: &K, options: Option<K::Cost>) -> Option<K::Cost>
+        ensures { AddsUsed K.adding (model self.now.study.now) self.now.survey.now self.now.plan.now options (pair_questions (model self.now.study.now)) result }
+    {
+        let mut sum = options;
+        for (resource, row) in (0..self.study.resources()).zip(&self.survey.resources) {
+            sum = plus_resource(kind, sum, self.study, self.plan, resource, row);
+        }
+        sum
+    }
 }
 
 // Adds what a component uses at the echelons 1 to 4.
