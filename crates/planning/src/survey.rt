@@ -117,6 +117,7 @@ fn asked<T: Copy, F: Fn(u8) -> Result<T, Fault>, const N: usize>(
     ensures { (b : Book) (questions : ℕ → List Question) (kept : ℕ → T) → ((k : ℕ) (r : Result T Fault) → F.post ask k r → Asked b (questions k) (λ x. x ≡ kept k) r) → Asked b (upto questions count) (Filled kept count places) result }
 {
     let mut filled = places;
+    // Stays: tried as a zip with the places; its proof lacked what the places already written hold, and it is no shorter.
     for number in 0..count {
         filled[usize::from(number)] = ask(number)?;
     }
