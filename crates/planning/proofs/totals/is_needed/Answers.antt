@@ -1,6 +1,5 @@
-use Rattle.std.proofs.Common.{◌≡◌, ◌<◌, false, length, sym, ap, ◌∙◌, subst, arith}
+use Rattle.std.proofs.Common.{◌<◌, length, sym, ap, ◌∙◌, arith}
 use Rattle.model.specs.Studies.{model}
-use Rattle.plans.specs.Ranges.{some_below}
 use Rattle.plans.specs.Questions.{count}
 use Rattle.plans.specs.Uses.{needs_at}
 use Rattle.planning.proofs.Needing.{needs_read, none_more, some_there}
@@ -19,9 +18,3 @@ returns-then-needs c =
     let needs = needs_read s c.args.plan.now _ _ _ c.components-component-items.ensures c.loop-number-test.true _ _ _ _ _ c.of-route.ensures.start c.of-route.ensures.byte c.needs.ensures in
     let h : c.loop-number.number < count s = omega (arith, ap length c.components-component-items.ensures) in
     sym (some_there _ (count s) _ h (sym needs ∙ c.if-needs.true))
-
-pub returns : goal.returns
-returns c =
-    let s = model c.args.study.now in
-    let all : c.loop-number.number ≡ count s = omega (arith, ap length c.components-component-items.ensures) in
-    sym (subst (λ n. some_below (needs_at s c.args.plan.now c.args.resource c.args.echelon) n ≡ false) all c.loop-number.invariant)

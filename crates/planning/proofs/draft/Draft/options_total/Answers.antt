@@ -5,11 +5,8 @@ use Rattle.plans.specs.Ranges.{upto}
 use Rattle.plans.specs.Questions.{count, component_questions}
 use Rattle.planning.specs.Sums.{AddsUsed}
 use Rattle.planning.proofs.Needing.{start_read}
-use Rattle.planning.proofs.Stepwise.{component_kept, used_none, used_more}
+use Rattle.planning.proofs.Stepwise.{component_kept, used_more}
 use Rattle.planning.proofs.draft.Draft.options_total.Goals as goal
-
-pub loop-number-init : goal.loop-number-init
-loop-number-init g c = used_none g.K.CostKind.adding (model c.args.self.now.study.now) c.args.self.now.plan.now c.args.self.now.survey.now None
 
 pub loop-number-preserved : goal.loop-number-preserved
 loop-number-preserved g c =
