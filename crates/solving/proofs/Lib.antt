@@ -11,7 +11,6 @@ pub mod AllTaken
 pub mod Offering
 pub mod ReadingOrder
 pub mod Frees
-pub mod FreePairs
 pub mod PairNumbers
 pub mod HeldPairs
 pub mod Bounds

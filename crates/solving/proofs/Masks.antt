@@ -22,14 +22,13 @@ unfolding shut_mask
 mask_lt marks e zero = omega arith
 mask_lt marks e (suc r) = omega (arith, mask_lt marks e r, bit_le (get_or (get_or marks r []) e Held) r, pow-add 2 1 r)
 
--- one resource more; its mark is read at a number that equals r
-pub mask_more : (marks : List (List Mark)) (e r j mask b : ℕ) → j ≡ r → (mask ≡ shut_mask marks e r) × (mask < 2 ^ r) → b ≡ bit_of (get_or (get_or marks j []) e Held) r → (mask + b ≡ shut_mask marks e (r + 1)) × (mask + b < 2 ^ (r + 1))
+-- one resource more, by the line of its marks
+pub mask_more : (marks : List (List Mark)) (line : List Mark) (e r mask b : ℕ) → (mask ≡ shut_mask marks e r) × (mask < 2 ^ r) → line ≡ get_or marks r [] → b ≡ bit_of (get_or line e Held) r → (mask + b ≡ shut_mask marks e (r + 1)) × (mask + b < 2 ^ (r + 1))
 unfolding shut_mask
-mask_more marks e r j mask b same h q =
-    let is : b ≡ bit_of (get_or (get_or marks r []) e Held) r = q ∙ ap (λ i. bit_of (get_or (get_or marks i []) e Held) r) same in
+mask_more marks line e r mask b m same q =
+    let is : b ≡ bit_of (get_or (get_or marks r []) e Held) r = q ∙ ap (λ l. bit_of (get_or l e Held) r) same in
     let le = bit_le (get_or (get_or marks r []) e Held) r in
-    let m = h.1 in
-    (rw add-one (ap (λ v. v + b) h.0 ∙ ap (λ v. shut_mask marks e r + v) is), omega (arith, pow-add 2 r 1))
+    (rw add-one (ap (λ v. v + b) m.0 ∙ ap (λ v. shut_mask marks e r + v) is), omega (arith, pow-add 2 r 1))
 
 -- ---- the bits that a mask has in common with the needs
 low : (a s r : ℕ) → s < 2 ^ r → bit_and (a % 2 ^ r) s ≡ bit_and a s

@@ -9,11 +9,6 @@ is_held Held = true
 is_held Free = false
 is_held Shut = false
 
-abbrev pub is_free : Mark → Bool
-is_free Held = false
-is_free Free = true
-is_free Shut = false
-
 abbrev pub is_shut : Mark → Bool
 is_shut Held = false
 is_shut Free = false

@@ -10,15 +10,11 @@ use model::question::RepairOption;
 use planning::table::Choices;
 
 // The bit of a resource, where its mark shuts it.
-fn bit(mark: Mark, resource: u8) -> u8
+fn bit(mark: Mark, resource: usize) -> u8
     requires { resource < 8 }
     ensures { result ≡ bit_of mark resource }
 {
-    match mark {
-        Mark::Held => 0,
-        Mark::Free => 0,
-        Mark::Shut => 1 << resource,
-    }
+    u8::from(mark == Mark::Shut) << resource
 }
 
 // The mask of the resources that are shut at the echelon.
@@ -27,8 +23,8 @@ fn shut_mask(marks: &Marks, echelon: usize, resources: u8) -> u8
     ensures { result ≡ shut_mask marks.now echelon resources }
 {
     let mut mask = 0;
-    for resource in 0..resources {
-        mask += bit(marks[usize::from(resource)][echelon], resource);
+    for (resource, line) in marks[..usize::from(resources)].iter().enumerate() {
+        mask += bit(line[echelon], resource);
     }
     mask
 }
@@ -38,12 +34,7 @@ pub(crate) fn shut_masks(marks: &Marks, resources: u8) -> [u8; 4]
     requires { resources ≤ 8 }
     ensures { result ≡ shut_masks marks.now resources }
 {
-    [
-        shut_mask(marks, 0, resources),
-        shut_mask(marks, 1, resources),
-        shut_mask(marks, 2, resources),
-        shut_mask(marks, 3, resources),
-    ]
+    std::array::from_fn(|echelon| shut_mask(marks, echelon, resources))
 }
 
 // A posting, unless its option needs a resource of the mask.
@@ -55,11 +46,7 @@ fn unless_shut(
 ) -> Option<Posting>
     ensures { result ≡ unless (is_barred needs option shut) posting }
 {
-    if needs.of(option) & shut != 0 {
-        None
-    } else {
-        posting
-    }
+    posting.filter(|_| needs.of(option) & shut == 0)
 }
 
 // The postings of the options that are allowed, by the mask of an echelon.

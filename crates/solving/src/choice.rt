@@ -17,18 +17,12 @@ pub(crate) struct Choice<C: Copy> {
     pub sum: Sum<C>,
 }
 
-// Where a byte stands among the bytes: the smaller byte comes first.
-fn rank(byte: u8) -> u8
-    ensures { result ≡ rank byte }
-{
-    byte
-}
-
-// Whether the cost a of a choice with byte x comes before the cost b of one with byte y.
+// Whether the cost a of a choice with byte x comes before the cost b of one with byte y. At equal cost the smaller byte comes
+// first.
 fn cost_precedes<K: CostKind>(kind: &K, a: K::Cost, x: u8, b: K::Cost, y: u8) -> bool
     ensures { (m n : ℕ) → SumOf K.adding m a → SumOf K.adding n b → m ≤ most → n ≤ most → result ≡ K.lower a b || (not (K.lower b a) && nat_lt (rank x) (rank y)) }
 {
-    kind.is_lower(a, b) || (!kind.is_lower(b, a) && rank(x) < rank(y))
+    kind.is_lower(a, b) || (!kind.is_lower(b, a) && x < y)
 }
 
 // Whether the first choice comes before the second, by cost and then by rank.

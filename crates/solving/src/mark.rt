@@ -1,7 +1,7 @@
 // The marks of pairs of a resource and an echelon in the search: held, free or shut.
 
 // A held pair is posted whether or not it is needed, and a shut one may not be needed.
-#[derive(Clone, Copy)]
+#[derive(Clone, Copy, PartialEq, Eq, Debug)]
 pub(crate) enum Mark {
     Held,
     Free,

@@ -13,12 +13,7 @@ fn reads_before(first: &[u8], second: &[u8]) -> bool
     requires { length first.now ≡ length second.now }
     ensures { result ≡ nat_lt (row_number rank 0 first.now) (row_number rank 0 second.now) }
 {
-    for number in 0..first.len() {
-        if first[number] != second[number] {
-            return first[number] < second[number];
-        }
-    }
-    false
+    first < second
 }
 
 // Whether the first comes before the second. What has no cost comes before nothing.
