@@ -2,6 +2,8 @@
 use Rattle.std.specs.Prelude.{◌≡◌, ℕ, ◌+◌, ◌*◌, ◌<◌, ◌≤◌, List, [], ◌∷◌, length, Some, None, Option, slice_index_or, slice_set}
 use Rattle.costs.specs.Kinds.{Adding}
 use Rattle.costs.specs.Postings.{most}
+use Rattle.model.specs.Studies.{Model}
+use Rattle.plans.specs.Questions.{count}
 use Rattle.theory.specs.Amounts.{Amount, both}
 use Rattle.solving.specs.declared.tag.Tag.{Tag}
 use Rattle.solving.specs.declared.tag.Tag.TheVariants as tag
@@ -19,6 +21,10 @@ unfoldable pub view : {C : Type 0} → List Tag → List C → List (Sum C)
 view [] ws = []
 view (t ∷ ts) [] = []
 view (t ∷ ts) (w ∷ ws) = sum_of t w ∷ view ts ws
+
+-- one cell for each component and echelon
+abbrev pub cells : Model → ℕ
+cells s = count s * s.echelons
 
 -- a parent's cell at an echelon, where there are so many echelons, is one of so many cells
 abbrev pub Room : Option ℕ → ℕ → ℕ → ℕ → Type 0

@@ -1,17 +1,17 @@
 // The bound of some marks: the plan of a walk, at its cost with the postings of the held pairs.
-ghost use Rattle.std.specs.Prelude.{◌≡◌, ◌*◌, ◌≤◌, length};
+ghost use Rattle.std.specs.Prelude.{◌≡◌, ◌≤◌, length};
 ghost use Rattle.model.specs.Studies.{model};
-ghost use Rattle.plans.specs.Questions.{count};
 ghost use Rattle.planning.specs.Sums.{Adds, of_resource};
 ghost use Rattle.solving.specs.Marked.{is_held, held_at};
+ghost use Rattle.solving.specs.Working.{cells};
 ghost use Rattle.solving.specs.Bounds.{AddsHeld, Bounds};
 
 use crate::best::Best;
 use crate::mark::{Mark, Marks};
+use crate::problem::Problem;
 use crate::walk::walk;
 use costs::kind::CostKind;
-use model::study::Study;
-use planning::table::{ResourceRow, Survey};
+use planning::table::ResourceRow;
 use planning::totals::plus_used;
 
 fn is_held(mark: Mark) -> bool
@@ -41,36 +41,37 @@ fn plus_row<K: CostKind>(
 
 // Adds the held pairs, by resource.
 fn plus_held<K: CostKind>(
-    kind: &K,
+    problem: &Problem<K>,
     cost: Option<K::Cost>,
-    study: &Study,
-    survey: &Survey,
     marks: &Marks,
 ) -> Option<K::Cost>
-    ensures { AddsHeld K.adding (model study.now) survey.now marks.now cost result }
+    ensures { AddsHeld K.adding (model problem.now.study.now) problem.now.survey.now marks.now cost result }
 {
     let mut sum = cost;
-    for resource in 0..usize::from(study.resources()) {
-        sum = plus_row(kind, sum, &marks[resource], &survey.resources[resource]);
+    for resource in 0..usize::from(problem.study.resources()) {
+        sum = plus_row(
+            problem.kind,
+            sum,
+            &marks[resource],
+            &problem.survey.resources[resource],
+        );
     }
     sum
 }
 
 pub(crate) fn bound<K: CostKind>(
-    kind: &K,
-    study: &Study,
-    survey: &Survey,
+    problem: &Problem<K>,
     marks: &Marks,
     working: &mut [K::Cost],
 ) -> Best<K::Cost>
-    requires { (1 ≤ count (model study.now)) × (count (model study.now) * (model study.now).echelons ≤ length working.old) }
-    ensures { Bounds K.adding K.lower (model study.now) survey.now marks.now result }
+    requires { cells (model problem.now.study.now) ≤ length working.old }
+    ensures { Bounds K.adding K.lower (model problem.now.study.now) problem.now.survey.now marks.now result }
 {
-    let found = walk(kind, study, survey, marks, working);
+    let found = walk(problem, marks, working);
     match found.cost {
         None => found,
         Some(_) => Best {
-            cost: plus_held(kind, found.cost, study, survey, marks),
+            cost: plus_held(problem, found.cost, marks),
             plan: found.plan,
         },
     }

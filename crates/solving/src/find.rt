@@ -1,11 +1,12 @@
 // The search of all plans, which begins with no plan and with every open pair free.
-ghost use Rattle.std.specs.Prelude.{◌≡◌, ◌*◌, ◌≤◌, length};
+ghost use Rattle.std.specs.Prelude.{◌≡◌, ◌≤◌, length};
 ghost use Rattle.model.specs.Studies.{model};
-ghost use Rattle.plans.specs.Questions.{count};
+ghost use Rattle.solving.specs.Working.{cells};
 ghost use Rattle.solving.specs.Least.{first_mark, first_line, FirstMarks, FindsLeast};
 
 use crate::best::Best;
 use crate::mark::{Mark, Marks};
+use crate::problem::Problem;
 use crate::search::search;
 use costs::kind::CostKind;
 use costs::posting::Posting;
@@ -46,19 +47,14 @@ fn first_marks(study: &Study, survey: &Survey) -> Marks
 }
 
 // The least plan with its cost, the first in reading order; without a cost where there is no plan.
-pub(crate) fn find<K: CostKind>(
-    kind: &K,
-    study: &Study,
-    survey: &Survey,
-    working: &mut [K::Cost],
-) -> Best<K::Cost>
-    requires { (1 ≤ count (model study.now)) × (count (model study.now) * (model study.now).echelons ≤ length working.old) }
-    ensures { FindsLeast K.adding K.lower (model study.now) survey.now result }
+pub(crate) fn find<K: CostKind>(problem: &Problem<K>, working: &mut [K::Cost]) -> Best<K::Cost>
+    requires { cells (model problem.now.study.now) ≤ length working.old }
+    ensures { FindsLeast K.adding K.lower (model problem.now.study.now) problem.now.survey.now result }
 {
-    let marks = first_marks(study, survey);
+    let marks = first_marks(problem.study, problem.survey);
     let none = Best {
         cost: None,
         plan: [0; 60],
     };
-    search(kind, study, survey, marks, none, working)
+    search(problem, marks, none, working)
 }

@@ -9,6 +9,7 @@ mod find;
 mod mark;
 mod order;
 mod pair;
+mod problem;
 mod reading;
 mod search;
 pub mod solve;

@@ -5,6 +5,7 @@ ghost use Rattle.solutions.specs.Solved.{solved};
 ghost use Rattle.solutions.specs.Promises.{Ready, SolvesLeast};
 
 use crate::find::find;
+use crate::problem::Problem;
 use costs::kind::CostKind;
 use model::book::ChargeBook;
 use model::refusal::Refusal;
@@ -39,7 +40,12 @@ pub fn solve<B: ChargeBook, K: CostKind>(
         Ok(survey) => survey,
         Err(fault) => return Err(Refusal::BookFault(fault)),
     };
-    let found = find(kind, study, &survey, working);
+    let problem = Problem {
+        kind,
+        study,
+        survey: &survey,
+    };
+    let found = find(&problem, working);
     match found.cost {
         None => Err(Refusal::NoPlan),
         Some(cost) => {

@@ -1,20 +1,20 @@
 // Taking one component: the best way on from each echelon is noted, and added to the sums of its parent.
-ghost use Rattle.std.specs.Prelude.{◌≡◌, ◌*◌, ◌<◌, ◌≤◌, length};
+ghost use Rattle.std.specs.Prelude.{◌≡◌, ◌<◌, ◌≤◌, length};
 ghost use Rattle.model.specs.Studies.{model};
 ghost use Rattle.plans.specs.Questions.{count};
 ghost use Rattle.plans.specs.Postings.{component};
-ghost use Rattle.solving.specs.Working.{view};
+ghost use Rattle.solving.specs.Working.{cells, view};
 ghost use Rattle.solving.specs.Steps.{FindsWay, TakesOne};
 
 use crate::allowed::allowed;
 use crate::choice::{Choice, no_way, way_on};
+use crate::problem::Problem;
 use crate::sum::Sum;
 use crate::tag::Tag;
 use crate::working::{add_above, sum_at};
 use costs::kind::CostKind;
 use model::component::Component;
 use model::study::Study;
-use planning::table::Survey;
 
 // The sum of the best way on from the first echelon, and the byte noted for each echelon.
 #[derive(Clone, Copy)]
@@ -33,9 +33,7 @@ pub(crate) fn component_of(study: &Study, number: usize) -> Component
 
 // The best way on of a component from an echelon, by the best way on from the next.
 fn way_at<K: CostKind>(
-    kind: &K,
-    study: &Study,
-    survey: &Survey,
+    problem: &Problem<K>,
     shut: &[u8; 4],
     number: usize,
     echelon: usize,
@@ -43,16 +41,16 @@ fn way_at<K: CostKind>(
     working: &[K::Cost],
     onward: Choice<K::Cost>,
 ) -> Choice<K::Cost>
-    requires entered { (number < count (model study.now)) × (echelon < (model study.now).echelons) }
-    requires tables_long_enough { (count (model study.now) * (model study.now).echelons ≤ length tags.now) × (count (model study.now) * (model study.now).echelons ≤ length working.now) }
-    ensures { FindsWay K.adding K.lower (model study.now) survey.now shut.now number echelon (view tags.now working.now) onward result }
+    requires entered { (number < count (model problem.now.study.now)) × (echelon < (model problem.now.study.now).echelons) }
+    requires tables_long_enough { (cells (model problem.now.study.now) ≤ length tags.now) × (cells (model problem.now.study.now) ≤ length working.now) }
+    ensures { FindsWay K.adding K.lower (model problem.now.study.now) problem.now.survey.now shut.now number echelon (view tags.now working.now) onward result }
 {
-    let needs = component_of(study, number).needs;
-    let choices = survey.options[number].echelons[echelon];
+    let needs = component_of(problem.study, number).needs;
+    let choices = problem.survey.options[number].echelons[echelon];
     let choices = allowed(choices, needs, shut[echelon]);
-    let cell = number * usize::from(study.echelons()) + echelon;
+    let cell = number * usize::from(problem.study.echelons()) + echelon;
     way_on(
-        kind,
+        problem.kind,
         choices,
         echelon as u8 + 1,
         sum_at(tags, working, cell),
@@ -62,27 +60,31 @@ fn way_at<K: CostKind>(
 
 // Takes one component, when those after it are taken.
 pub(crate) fn take_component<K: CostKind>(
-    kind: &K,
-    study: &Study,
-    survey: &Survey,
+    problem: &Problem<K>,
     shut: &[u8; 4],
     number: usize,
     tags: &mut [Tag],
     working: &mut [K::Cost],
 ) -> Taken<K::Cost>
-    requires entered { number < count (model study.now) }
-    requires tables_long_enough { (count (model study.now) * (model study.now).echelons ≤ length tags.old) × (count (model study.now) * (model study.now).echelons ≤ length working.old) }
-    ensures { TakesOne K.adding K.lower (model study.now) survey.now shut.now number (view tags.old working.old) (view tags.new working.new) result }
+    requires entered { number < count (model problem.now.study.now) }
+    requires tables_long_enough { (cells (model problem.now.study.now) ≤ length tags.old) × (cells (model problem.now.study.now) ≤ length working.old) }
+    ensures { TakesOne K.adding K.lower (model problem.now.study.now) problem.now.survey.now shut.now number (view tags.old working.old) (view tags.new working.new) result }
 {
-    let parent = component_of(study, number).parent;
-    let echelons = usize::from(study.echelons());
+    let parent = component_of(problem.study, number).parent;
+    let echelons = usize::from(problem.study.echelons());
     let mut bytes = [0; 4];
     let mut onward = no_way();
     for echelon in (0..echelons).rev() {
-        onward = way_at(
-            kind, study, survey, shut, number, echelon, tags, working, onward,
+        onward = way_at(problem, shut, number, echelon, tags, working, onward);
+        add_above(
+            problem.kind,
+            parent,
+            echelons,
+            echelon,
+            onward.sum,
+            tags,
+            working,
         );
-        add_above(kind, parent, echelons, echelon, onward.sum, tags, working);
         bytes[echelon] = onward.byte;
     }
     Taken {

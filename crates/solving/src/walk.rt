@@ -1,40 +1,43 @@
 // A walk: the least plan, first in reading order, among those that need no shut pair, counting option postings only.
-ghost use Rattle.std.specs.Prelude.{◌*◌, ◌≤◌, length};
+ghost use Rattle.std.specs.Prelude.{◌≤◌, length};
 ghost use Rattle.model.specs.Studies.{model};
 ghost use Rattle.plans.specs.Questions.{count};
 ghost use Rattle.solving.specs.Finds.{Walks};
 ghost use Rattle.solving.specs.Steps.{TakesAll};
-ghost use Rattle.solving.specs.Working.{view};
+ghost use Rattle.solving.specs.Working.{cells, view};
 
 use crate::allowed::shut_masks;
 use crate::best::Best;
 use crate::mark::Marks;
+use crate::problem::Problem;
 use crate::reading::read_off;
 use crate::sum::{Sum, cost_of};
 use crate::tag::Tag;
 use crate::taking::{component_of, take_component};
 use crate::working::add_top;
 use costs::kind::CostKind;
-use model::study::Study;
-use planning::table::Survey;
 
 // Takes every component, from the last to the first, and answers the total of the top components.
 fn take_all<K: CostKind>(
-    kind: &K,
-    study: &Study,
-    survey: &Survey,
+    problem: &Problem<K>,
     shut: &[u8; 4],
     tags: &mut [Tag],
     working: &mut [K::Cost],
     notes: &mut [[u8; 4]],
 ) -> Sum<K::Cost>
-    requires { (count (model study.now) * (model study.now).echelons ≤ length tags.old) × ((count (model study.now) * (model study.now).echelons ≤ length working.old) × (count (model study.now) ≤ length notes.old)) }
-    ensures { TakesAll K.adding K.lower (model study.now) survey.now shut.now (view tags.old working.old) notes.new result }
+    requires tables_long_enough { (cells (model problem.now.study.now) ≤ length tags.old) × (cells (model problem.now.study.now) ≤ length working.old) }
+    requires notes_long_enough { count (model problem.now.study.now) ≤ length notes.old }
+    ensures { TakesAll K.adding K.lower (model problem.now.study.now) problem.now.survey.now shut.now (view tags.old working.old) notes.new result }
 {
     let mut total = Sum::Nothing;
-    for number in (0..study.components().len()).rev() {
-        let taken = take_component(kind, study, survey, shut, number, tags, working);
-        total = add_top(kind, component_of(study, number).parent, total, taken.first);
+    for number in (0..problem.study.components().len()).rev() {
+        let taken = take_component(problem, shut, number, tags, working);
+        total = add_top(
+            problem.kind,
+            component_of(problem.study, number).parent,
+            total,
+            taken.first,
+        );
         notes[number] = taken.bytes;
     }
     total
@@ -42,21 +45,19 @@ fn take_all<K: CostKind>(
 
 // Takes every component, and reads the plan off the notes.
 pub(crate) fn walk<K: CostKind>(
-    kind: &K,
-    study: &Study,
-    survey: &Survey,
+    problem: &Problem<K>,
     marks: &Marks,
     working: &mut [K::Cost],
 ) -> Best<K::Cost>
-    requires { (1 ≤ count (model study.now)) × (count (model study.now) * (model study.now).echelons ≤ length working.old) }
-    ensures { Walks K.adding K.lower (model study.now) survey.now marks.now result }
+    requires { cells (model problem.now.study.now) ≤ length working.old }
+    ensures { Walks K.adding K.lower (model problem.now.study.now) problem.now.survey.now marks.now result }
 {
-    let shut = shut_masks(marks, study.resources());
+    let shut = shut_masks(marks, problem.study.resources());
     let mut tags = [Tag::Nothing; 240];
     let mut notes = [[0; 4]; 60];
     let mut plan = [0; 60];
-    let total = take_all(kind, study, survey, &shut, &mut tags, working, &mut notes);
-    read_off(study, &notes, &mut plan);
+    let total = take_all(problem, &shut, &mut tags, working, &mut notes);
+    read_off(problem.study, &notes, &mut plan);
     Best {
         cost: cost_of(total),
         plan,

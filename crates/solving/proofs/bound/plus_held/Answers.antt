@@ -13,7 +13,7 @@ loop-resource-init g c b keeps = adds_none g.K.CostKind.adding c.args.cost
 pub loop-resource-preserved : goal.loop-resource-preserved
 loop-resource-preserved g c b keeps =
     let k = g.K.CostKind.adding in
-    let s = model c.args.study.now in
+    let s = model c.args.problem.now.study.now in
     let marks = c.args.marks.now in
     let i = c.loop-resource.resource in
     let h : i < s.resources = omega (arith, c.loop-resource-test.true, c.resources.ensures, c.from-resource-end.ensures) in
@@ -23,6 +23,6 @@ loop-resource-preserved g c b keeps =
 
 pub returns : goal.returns
 returns g c b keeps =
-    let s = model c.args.study.now in
+    let s = model c.args.problem.now.study.now in
     let all : c.loop-resource.resource ≡ s.resources = omega (arith, c.resources.ensures, c.from-resource-end.ensures) in
     subst (λ n. Adds g.K.CostKind.adding c.args.cost (held_postings s b c.args.marks.now n) c.loop-resource.sum) all (c.loop-resource.invariant b keeps)

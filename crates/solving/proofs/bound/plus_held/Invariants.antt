@@ -8,5 +8,5 @@ use Rattle.solving.proofs.bound.plus_held.Given as goal
 -- the held pairs of the resources so far are added
 abbrev pub invariant-loop-resource : goal.invariant-loop-resource
 invariant-loop-resource g l =
-    (b : Book) → Keeps (model l.study) b l.survey
-    → Adds g.K.CostKind.adding l.initial.sum (held_postings (model l.study) b l.marks l.resource) l.sum
+    (b : Book) → Keeps (model l.problem.study.now) b l.problem.survey.now
+    → Adds g.K.CostKind.adding l.initial.sum (held_postings (model l.problem.study.now) b l.marks l.resource) l.sum

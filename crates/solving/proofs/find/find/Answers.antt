@@ -5,4 +5,4 @@ use Rattle.solving.proofs.FirstMarks.{finds_least}
 use Rattle.solving.proofs.find.find.Goals as goal
 
 pub returns : goal.returns
-returns g c = finds_least g.met.K.CostKind.laws (model c.args.study.now) c.args.survey.now (limited c.args.study.now) c.requires.0 c.first_marks-marks.result c.first_marks-marks.ensures _ c.search.result refl c.search.ensures
+returns g c = finds_least g.met.K.CostKind.laws (model c.args.problem.now.study.now) c.args.problem.now.survey.now (limited c.args.problem.now.study.now) c.args.problem.now.some_component c.first_marks-marks.result c.first_marks-marks.ensures _ c.search.result refl c.search.ensures

@@ -10,8 +10,8 @@ use Rattle.solving.proofs.taking.take_component.Goals as goal
 
 pub add_above-requires : goal.add_above-requires
 add_above-requires g c =
-    let s = model c.args.study.now in
-    let limits = limited c.args.study.now in
+    let s = model c.args.problem.now.study.now in
+    let limits = limited c.args.problem.now.study.now in
     let l = c.loop-echelon in
     let e = l.echelon - 1 in
     let last : c.from-echelons.result ≡ s.echelons = c.from-echelons.ensures ∙ c.echelons.ensures in
@@ -24,9 +24,9 @@ pub loop-echelon-init : goal.loop-echelon-init
 loop-echelon-init g c = (
   refl,
   λ o offers stand.
-      let s = model c.args.study.now in
+      let s = model c.args.problem.now.study.now in
       let last : c.from-echelons.result ≡ s.echelons = c.from-echelons.ensures ∙ c.echelons.ensures in
-      none_done g.K.CostKind.adding g.K.CostKind.lower s (limited c.args.study.now) o c.args.number c.requires.entered c.from-echelons.result c.no_way-onward.result _ (view c.args.tags.now c.args.working.now) last (c.no_way-onward.ensures g.K.CostKind.adding) stand,
+      none_done g.K.CostKind.adding g.K.CostKind.lower s (limited c.args.problem.now.study.now) o c.args.number c.requires.entered c.from-echelons.result c.no_way-onward.result _ (view c.args.tags.now c.args.working.now) last (c.no_way-onward.ensures g.K.CostKind.adding) stand,
 )
 
 pub loop-echelon-preserved : goal.loop-echelon-preserved
@@ -35,16 +35,16 @@ loop-echelon-preserved g c = (
   λ o offers stand.
       let k = g.K.CostKind.adding in
       let lower = g.K.CostKind.lower in
-      let s = model c.args.study.now in
+      let s = model c.args.problem.now.study.now in
       let l = c.loop-echelon in
       let e = l.echelon - 1 in
-      let limits = limited c.args.study.now in
+      let limits = limited c.args.problem.now.study.now in
       let last : c.from-echelons.result ≡ s.echelons = c.from-echelons.ensures ∙ c.echelons.ensures in
       let room = view_length l.tags l.working (count s * s.echelons) (omega arith) (omega arith) in
-      turn k lower s limits o c.args.number c.requires.entered c.args.survey.now c.args.shut.now l.echelon e c.from-echelons.result c.component_of-parent.result (record { byte = l.onward.0; sum = l.onward.1.0 }) c.way_at-onward.result l.bytes (view l.tags l.working) (view c.add_above.new.tags c.add_above.new.working) (omega arith) (omega arith) last c.component_of-parent.ensures (omega (arith, l.invariant.0, limits.few_echelons)) room offers (l.invariant.1 o offers stand) c.way_at-onward.ensures c.add_above.ensures,
+      turn k lower s limits o c.args.number c.requires.entered c.args.problem.now.survey.now c.args.shut.now l.echelon e c.from-echelons.result c.component_of-parent.result (record { byte = l.onward.0; sum = l.onward.1.0 }) c.way_at-onward.result l.bytes (view l.tags l.working) (view c.add_above.new.tags c.add_above.new.working) (omega arith) (omega arith) last c.component_of-parent.ensures (omega (arith, l.invariant.0, limits.few_echelons)) room offers (l.invariant.1 o offers stand) c.way_at-onward.ensures c.add_above.ensures,
 )
 
 pub returns : goal.returns
 returns g c = λ o offers stand.
     let l = c.loop-echelon in
-    all_done g.K.CostKind.adding g.K.CostKind.lower (model c.args.study.now) (limited c.args.study.now) o c.args.number c.requires.entered l.echelon (record { byte = l.onward.0; sum = l.onward.1.0 }) l.bytes (view l.tags l.working) (omega arith) (l.invariant.1 o offers stand)
+    all_done g.K.CostKind.adding g.K.CostKind.lower (model c.args.problem.now.study.now) (limited c.args.problem.now.study.now) o c.args.number c.requires.entered l.echelon (record { byte = l.onward.0; sum = l.onward.1.0 }) l.bytes (view l.tags l.working) (omega arith) (l.invariant.1 o offers stand)

@@ -11,6 +11,6 @@ use Rattle.solving.proofs.taking.take_component.Given as goal
 abbrev pub invariant-loop-echelon : goal.invariant-loop-echelon
 invariant-loop-echelon g l =
     (length l.bytes ≡ 4)
-    × ((o : ℕ → Options) → OffersAll (model l.study) l.survey l.shut o
-    → Cells g.K.CostKind.adding l.study.echelons (suc l.number) (sums_at g.K.CostKind.adding g.K.CostKind.lower (tabled (model l.study) o) (suc l.number)) (view l.initial.tags l.initial.working)
-    → Partly g.K.CostKind.adding g.K.CostKind.lower (model l.study) o l.number l.echelon (record { byte = l.onward.0; sum = l.onward.1.0 }) l.bytes (view l.tags l.working))
+    × ((o : ℕ → Options) → OffersAll (model l.problem.study.now) l.problem.survey.now l.shut o
+    → Cells g.K.CostKind.adding l.problem.study.now.echelons (suc l.number) (sums_at g.K.CostKind.adding g.K.CostKind.lower (tabled (model l.problem.study.now) o) (suc l.number)) (view l.initial.tags l.initial.working)
+    → Partly g.K.CostKind.adding g.K.CostKind.lower (model l.problem.study.now) o l.number l.echelon (record { byte = l.onward.0; sum = l.onward.1.0 }) l.bytes (view l.tags l.working))

@@ -24,7 +24,7 @@ cell_read cells i n last e d x y is same has = is ∙ ap (λ m. get_or cells (i 
 pub returns : goal.returns
 returns g c o under on offers cell =
     let k = g.K.CostKind.adding in
-    let s = model c.args.study.now in
+    let s = model c.args.problem.now.study.now in
     let i = c.args.number in
     let e = c.args.echelon in
     let finds = subst (λ n. Leads k g.K.CostKind.lower c.allowed-choices.result n c.sum_at.result c.args.onward c.way_on.result) (add-one e) c.way_on.ensures in
@@ -35,7 +35,7 @@ returns g c o under on offers cell =
 
 pub sum_at-requires : goal.sum_at-requires
 sum_at-requires g c =
-    let s = model c.args.study.now in
+    let s = model c.args.problem.now.study.now in
     let last : c.from.result ≡ s.echelons = c.from.ensures ∙ c.echelons.ensures in
     let fits : (cells : ℕ) → count s * s.echelons ≤ cells → c.args.number * c.from.result + c.args.echelon < cells =
     λ cells room. subst (λ n. c.args.number * n + c.args.echelon < cells) (sym last) (cell_fits (count s) s.echelons c.args.number c.args.echelon cells c.requires.entered.0 c.requires.entered.1 room) in

@@ -11,6 +11,6 @@ use Rattle.solving.proofs.walk.take_all.Given as goal
 -- the components from this one on are taken
 abbrev pub invariant-loop-number : goal.invariant-loop-number
 invariant-loop-number g l =
-    (o : ℕ → Options) → OffersAll (model l.study) l.survey l.shut o
-    → Cells g.K.CostKind.adding l.study.echelons (count (model l.study)) (λ _ _. nothing) (view l.initial.tags l.initial.working)
-    → Done g.K.CostKind.adding g.K.CostKind.lower (model l.study) o l.number l.total l.notes (view l.tags l.working)
+    (o : ℕ → Options) → OffersAll (model l.problem.study.now) l.problem.survey.now l.shut o
+    → Cells g.K.CostKind.adding l.problem.study.now.echelons (count (model l.problem.study.now)) (λ _ _. nothing) (view l.initial.tags l.initial.working)
+    → Done g.K.CostKind.adding g.K.CostKind.lower (model l.problem.study.now) o l.number l.total l.notes (view l.tags l.working)
