@@ -15,7 +15,6 @@ use Rattle.plans.specs.Questions.{count}
 use Rattle.plans.specs.Postings.{component, posting}
 use Rattle.plans.proofs.Fitting.{WithinIf}
 use Rattle.planning.specs.declared.table.Choices.{Choices}
-use Rattle.planning.specs.declared.table.OptionRow.{OptionRow}
 use Rattle.planning.specs.declared.table.Survey.{Survey}
 use Rattle.planning.specs.Surveys.{no_choices, no_options, choices_of, option_row, Keeps}
 use Rattle.theory.specs.Entries.{Entry}
@@ -116,7 +115,7 @@ module _ (s : Model) (limits : Limits s) (b : Book) (kept : KeepsLimits b) (t : 
   abbrev pub open_options : ℕ → Options
   open_options i = allowed (shut_pairs marks s.echelons) (s.resources * s.echelons) (needs_of s b limits kept i) (options_of s b limits kept i)
 
-  row_at : (i e : ℕ) → e < 4 → get_or (option_row s b i).echelons e no_choices ≡ choices_of s b i (suc e)
+  row_at : (i e : ℕ) → e < 4 → get_or (option_row s b i) e no_choices ≡ choices_of s b i (suc e)
   row_at i zero h = refl
   row_at i (suc zero) h = refl
   row_at i (suc (suc zero)) h = refl
@@ -139,12 +138,12 @@ module _ (s : Model) (limits : Limits s) (b : Book) (kept : KeepsLimits b) (t : 
 
   module _ (i e : ℕ) (entered : i < count s) (here : e < s.echelons) where
     abbrev row : Choices
-    row = get_or (get_or t.options i no_options).echelons e no_choices
+    row = get_or (get_or t.options i no_options) e no_choices
 
     row_is : row ≡ choices_of s b i (suc e)
     row_is =
         let few = limits.few_echelons in
-        ap (λ (r : OptionRow). get_or r.echelons e no_choices) (keeps.options i entered) ∙ row_at i e (omega arith)
+        ap (λ (r : List Choices). get_or r e no_choices) (keeps.options i entered) ∙ row_at i e (omega arith)
 
     asked : leb (suc e) s.echelons ≡ true
     asked = le-leb (suc e) s.echelons here

@@ -26,16 +26,12 @@ module _ (s : Model) (limits : Limits s) where
   start_same None i n v bytes h l = refl
   start_same (Some p) i n v bytes h l = ap repaired_at (get_or-set_other bytes n p v 0 (λ z. omega arith))
 
-  -- the parent of component n, as it is read, has a byte among the first n
-  pub parent_fits : (n : ℕ) (c : Component) (bytes : ℕ) → c ≡ component s n → n ≤ bytes → parent_number c.parent ≤ bytes
-  parent_fits n c bytes read h = subst (λ (d : Component). parent_number d.parent ≤ bytes) (sym read) (omega (arith, parent_before s limits n))
-
-  pub read_more : (noted : List (List ℕ)) (n a v : ℕ) (c : Component) (bytes : List ℕ) → n < length bytes → c ≡ component s n → a ≡ start_under bytes c.parent → v ≡ noted_at (get_or noted n []) a → ReadsOff s noted n bytes → ReadsOff s noted (n + 1) (set bytes n v)
-  read_more noted n a v c bytes long read is-start is so_far i h =
+  pub read_more : (noted : List (List ℕ)) (n a v : ℕ) (bytes : List ℕ) → n < length bytes → a ≡ start_under bytes (parent s n) → v ≡ noted_at (get_or noted n []) a → ReadsOff s noted n bytes → ReadsOff s noted (n + 1) (set bytes n v)
+  read_more noted n a v bytes long is-start is so_far i h =
       let stays : start_under (set bytes n v) (parent s i) ≡ start_under bytes (parent s i) = start_same (parent s i) i n v bytes (parent_before s limits i) (omega arith) in
       ⊎_elim
       (λ at. subst (λ j. get_or (set bytes n v) j 0 ≡ noted_at (get_or noted j []) (start_under (set bytes n v) (parent s j))) (sym at)
-      (get_or-set_same bytes n v 0 long ∙ is ∙ ap (noted_at (get_or noted n [])) (is-start ∙ ap (λ (d : Component). start_under bytes d.parent) read ∙ sym (start_same (parent s n) n n v bytes (parent_before s limits n) (omega arith)))))
+      (get_or-set_same bytes n v 0 long ∙ is ∙ ap (noted_at (get_or noted n [])) (is-start ∙ sym (start_same (parent s n) n n v bytes (parent_before s limits n) (omega arith)))))
       (λ ne. get_or-set_other bytes n i v 0 ne ∙ so_far i (omega arith) ∙ ap (noted_at (get_or noted i [])) (sym stays))
       (cases_eq i n)
 

@@ -5,7 +5,6 @@ use Rattle.costs.specs.Kinds.{Adding}
 use Rattle.model.specs.Books.{Book, KeepsLimits}
 use Rattle.model.specs.Studies.{Model}
 use Rattle.plans.specs.Questions.{count}
-use Rattle.planning.specs.declared.table.ResourceRow.{ResourceRow}
 use Rattle.planning.specs.declared.table.Survey.{Survey}
 use Rattle.planning.specs.Surveys.{Keeps, no_resource}
 use Rattle.solutions.specs.Solved.{least_plan}
@@ -19,10 +18,10 @@ first_mark None = Shut
 first_mark (Some p) = Free
 
 -- a resource at the echelons 1 to 4
-abbrev pub first_line : ResourceRow → List Mark
+abbrev pub first_line : List (Option Posting) → List Mark
 first_line row =
-    first_mark (slice_index_or row.echelons 0 None) ∷ first_mark (slice_index_or row.echelons 1 None)
-    ∷ first_mark (slice_index_or row.echelons 2 None) ∷ first_mark (slice_index_or row.echelons 3 None) ∷ []
+    first_mark (slice_index_or row 0 None) ∷ first_mark (slice_index_or row 1 None)
+    ∷ first_mark (slice_index_or row 2 None) ∷ first_mark (slice_index_or row 3 None) ∷ []
 
 -- the first n resources are marked so
 abbrev pub FirstMarks : Survey → ℕ → List (List Mark) → Type 0

@@ -39,7 +39,7 @@ tabled s o = record {
 -- the postings that the survey keeps and the masks of shut resources allow for component i at echelon e
 abbrev pub allowed_at : Model → Survey → List ℕ → ℕ → ℕ → Choices
 allowed_at s t shut i e =
-    allowed_choices (slice_index_or (get_or t.options i no_options).echelons e no_choices) (component s i).needs (slice_index shut e)
+    allowed_choices (slice_index_or (get_or t.options i no_options) e no_choices) (component s i).needs (slice_index shut e)
 
 -- the options are those
 abbrev pub OffersAll : Model → Survey → List ℕ → (ℕ → Options) → Type 0

@@ -1,7 +1,7 @@
 // The bound of some marks: the plan of a walk, at its cost with the postings of the held pairs.
 ghost use Rattle.std.specs.Prelude.{◌≡◌, ◌≤◌, length};
 ghost use Rattle.model.specs.Studies.{model};
-ghost use Rattle.planning.specs.Sums.{Adds, of_resource};
+ghost use Rattle.planning.specs.Surveys.{by_echelon};
 ghost use Rattle.solving.specs.Marked.{is_held, held_at};
 ghost use Rattle.solving.specs.Working.{cells};
 ghost use Rattle.solving.specs.Bounds.{AddsHeld, Bounds};
@@ -11,32 +11,19 @@ use crate::mark::{Mark, Marks};
 use crate::problem::Problem;
 use crate::walk::walk;
 use costs::kind::CostKind;
-use planning::table::ResourceRow;
-use planning::totals::plus_used;
+use planning::totals::plus_row;
 
 fn is_held(mark: Mark) -> bool
     ensures { result ≡ is_held mark }
 {
-    match mark {
-        Mark::Held => true,
-        _ => false,
-    }
+    mark == Mark::Held
 }
 
-// Adds a resource at those of the echelons 1 to 4 where it is held.
-fn plus_row<K: CostKind>(
-    kind: &K,
-    sum: Option<K::Cost>,
-    line: &[Mark; 4],
-    row: &ResourceRow,
-) -> Option<K::Cost>
-    ensures { Adds K.adding sum (of_resource (held_at line.now) row.now) result }
+// At which of the echelons 1 to 4 a resource is held.
+fn held_at(line: &[Mark; 4]) -> [bool; 4]
+    ensures { result ≡ by_echelon (held_at line.now) }
 {
-    let [first, second, third, fourth] = row.echelons;
-    let sum = plus_used(kind, sum, is_held(line[0]), first);
-    let sum = plus_used(kind, sum, is_held(line[1]), second);
-    let sum = plus_used(kind, sum, is_held(line[2]), third);
-    plus_used(kind, sum, is_held(line[3]), fourth)
+    line.map(is_held)
 }
 
 // Adds the held pairs, by resource.
@@ -48,13 +35,10 @@ fn plus_held<K: CostKind>(
     ensures { AddsHeld K.adding (model problem.now.study.now) problem.now.survey.now marks.now cost result }
 {
     let mut sum = cost;
-    for resource in 0..usize::from(problem.study.resources()) {
-        sum = plus_row(
-            problem.kind,
-            sum,
-            &marks[resource],
-            &problem.survey.resources[resource],
-        );
+    let resources = usize::from(problem.study.resources());
+    for (resource, line) in marks[..resources].iter().enumerate() {
+        let row = &problem.survey.resources[resource];
+        sum = plus_row(problem.kind, sum, held_at(line), row);
     }
     sum
 }

@@ -10,8 +10,7 @@ use crate::problem::Problem;
 use crate::search::search;
 use costs::kind::CostKind;
 use costs::posting::Posting;
-use model::study::Study;
-use planning::table::{ResourceRow, Survey};
+use planning::table::{ByEchelon, Survey};
 
 // What is open is free, and what is closed is shut.
 fn first_mark(posting: Option<Posting>) -> Mark
@@ -23,27 +22,17 @@ fn first_mark(posting: Option<Posting>) -> Mark
     }
 }
 
-fn first_line(row: &ResourceRow) -> [Mark; 4]
-    ensures { result ≡ first_line row.now }
+fn first_line(row: ByEchelon<Option<Posting>>) -> [Mark; 4]
+    ensures { result ≡ first_line row }
 {
-    let [first, second, third, fourth] = row.echelons;
-    [
-        first_mark(first),
-        first_mark(second),
-        first_mark(third),
-        first_mark(fourth),
-    ]
+    row.map(first_mark)
 }
 
 // The marks that the search begins with, by resource.
-fn first_marks(study: &Study, survey: &Survey) -> Marks
-    ensures { FirstMarks survey.now (model study.now).resources result }
+fn first_marks(survey: &Survey) -> Marks
+    ensures { FirstMarks survey.now 8 result }
 {
-    let mut marks = [[Mark::Shut; 4]; 8];
-    for resource in 0..usize::from(study.resources()) {
-        marks[resource] = first_line(&survey.resources[resource]);
-    }
-    marks
+    survey.resources.map(first_line)
 }
 
 // The least plan with its cost, the first in reading order; without a cost where there is no plan.
@@ -51,7 +40,7 @@ pub(crate) fn find<K: CostKind>(problem: &Problem<K>, working: &mut [K::Cost]) -
     requires { cells (model problem.now.study.now) ≤ length working.old }
     ensures { FindsLeast K.adding K.lower (model problem.now.study.now) problem.now.survey.now result }
 {
-    let marks = first_marks(problem.study, problem.survey);
+    let marks = first_marks(problem.survey);
     let none = Best {
         cost: None,
         plan: [0; 60],

@@ -46,7 +46,7 @@ fn way_at<K: CostKind>(
     ensures { FindsWay K.adding K.lower (model problem.now.study.now) problem.now.survey.now shut.now number echelon (view tags.now working.now) onward result }
 {
     let needs = component_of(problem.study, number).needs;
-    let choices = problem.survey.options[number].echelons[echelon];
+    let choices = problem.survey.options[number][echelon];
     let choices = allowed(choices, needs, shut[echelon]);
     let cell = number * usize::from(problem.study.echelons()) + echelon;
     way_on(
