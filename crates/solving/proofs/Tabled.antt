@@ -1,17 +1,27 @@
 -- The table of a study is one that the solver's argument speaks of.
-use Rattle.std.proofs.Common.{◌≡◌, ℕ, ◌≤◌, true, Some, None, Option, sym, subst, inl, inr, arith}
+use Rattle.std.proofs.Common.{◌≡◌, ℕ, ◌<◌, ◌≤◌, true, List, length, get_or, Some, None, Option, sym, ap, subst, inl, inr, arith}
 use Rattle.std.proofs.lemmas.List.{get_or_past}
 use Rattle.std.proofs.lemmas.Bool.{cases_lt, ltb-true}
 use Rattle.model.specs.Components.{no_component, is_entered}
 use Rattle.model.specs.declared.component.Component.{Component}
 use Rattle.model.specs.Studies.{Model, Limits}
 use Rattle.plans.specs.Questions.{count}
+use Rattle.plans.specs.Postings.{component}
 use Rattle.plans.specs.Starts.{parent}
+use Rattle.planning.proofs.Needing.{component_read}
 use Rattle.theory.specs.Options.{Options}
 use Rattle.theory.specs.Tables.{Sound}
 use Rattle.theory.proofs.Places.{echelons_rise}
 use Rattle.solutions.specs.Problems.{parent_number}
 use Rattle.solving.specs.Steps.{tabled}
+
+-- what the code reads past the last component, which it never does
+abbrev pub unread : Component
+unread = record { parent = None; level = 0; needs = record { discard = 0; repair = 0; moving = 0 }; rate = 0 }
+
+-- component i, as the code reads it
+pub component_at : (s : Model) (xs : List Component) (i : ℕ) → xs ≡ s.components → i < count s → get_or xs i unread ≡ component s i
+component_at s xs i same h = component_read s xs i unread same (omega (arith, ap length same))
 
 before_it : (i : ℕ) (p : Option ℕ) → is_entered i p ≡ true → parent_number p ≤ i
 before_it i None h = omega arith

@@ -1,5 +1,5 @@
 -- One turn of taking a component: from one echelon to the one below it.
-use Rattle.std.proofs.Common.{◌≡◌, ℕ, suc, ◌+◌, ◌-◌, ◌*◌, ◌<◌, ◌≤◌, Bool, List, length, get_or, set, Some, None, Option, sym, refl, ap, ◌∙◌, subst, ⊎_elim, arith}
+use Rattle.std.proofs.Common.{◌≡◌, ℕ, suc, ◌+◌, ◌-◌, ◌*◌, ◌<◌, ◌≤◌, Bool, List, [], length, get_or, set, Some, None, Option, sym, refl, ap, ◌∙◌, subst, ⊎_elim, add-one, arith}
 use Rattle.std.proofs.lemmas.List.{get_or-set_same, get_or-set_other}
 use Rattle.std.proofs.lemmas.Bool.{cases_eq}
 use Rattle.costs.specs.Kinds.{Adding}
@@ -9,7 +9,9 @@ use Rattle.plans.specs.Questions.{count}
 use Rattle.plans.specs.Postings.{component}
 use Rattle.plans.specs.Starts.{parent}
 use Rattle.plans.specs.Orders.{rank}
+use Rattle.planning.specs.declared.table.Choices.{Choices}
 use Rattle.planning.specs.declared.table.Survey.{Survey}
+use Rattle.planning.specs.Surveys.{no_choices}
 use Rattle.theory.specs.Amounts.{both}
 use Rattle.theory.specs.Options.{Options}
 use Rattle.theory.specs.Choices.{no_way}
@@ -19,7 +21,8 @@ use Rattle.solutions.specs.Problems.{parent_number}
 use Rattle.solving.specs.declared.sum.Sum.{Sum}
 use Rattle.solving.specs.declared.sum.Sum.TheVariants.{Closed}
 use Rattle.solving.specs.declared.choice.Choice.{Choice}
-use Rattle.solving.specs.Sums.{held, held_choice}
+use Rattle.solving.specs.Allowed.{allowed_choices}
+use Rattle.solving.specs.Sums.{held, held_choice, Offers, Leads}
 use Rattle.solving.specs.Working.{AddsAbove}
 use Rattle.solving.specs.Steps.{tabled, OffersAll, Cells, Noted, best_on, FindsWay}
 use Rattle.solving.proofs.Holding.{best_posts}
@@ -128,3 +131,16 @@ module _ {C : Type 0} (k : Adding C) (lower : C → C → Bool) (s : Model) (lim
       let adds1 = subst (λ n. AddsAbove k c.parent n e next.sum cells cells') same_last adds0 in
       let adds = subst (λ (d : Component). AddsAbove k d.parent E e next.sum cells cells') read adds1 in
       turned e here onward next bytes cells cells' long room st is (parent s i) refl adds
+
+-- the way on that is found by the component c, as it is read, by its row of the survey and by its cell
+pub way_found : {C : Type 0} (k : Adding C) (lower : C → C → Bool) (s : Model) (t : Survey) (shut : List ℕ) (i e last : ℕ) (c : Component) (choices : Choices) (cells : List (Sum C)) (under : Sum C) (onward r : Choice C)
+    → i < count s → e < s.echelons → last ≡ s.echelons → c ≡ component s i
+    → choices ≡ allowed_choices (get_or (get_or t.options i []) e no_choices) c.needs (get_or shut e 0)
+    → under ≡ get_or cells (i * last + e) Closed → Leads k lower choices (e + 1) under onward r → FindsWay k lower s t shut i e cells onward r
+way_found k lower s t shut i e last c choices cells under onward r entered here same read is cell leads o below on offers stands =
+    let kept = get_or (get_or t.options i []) e no_choices in
+    let leads1 = subst (λ n. Leads k lower choices n under onward r) (add-one e) leads in
+    let allows = is ∙ ap (λ (d : Component). allowed_choices kept d.needs (get_or shut e 0)) read in
+    leads1 (o (suc i)) below on
+    (subst (λ p. Offers p (o (suc i)) (suc e)) (sym allows) (offers i e entered here))
+    (cell ∙ ap (λ n. get_or cells (i * n + e) Closed) same ∙ stands)

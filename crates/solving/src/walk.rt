@@ -13,7 +13,7 @@ use crate::problem::Problem;
 use crate::reading::read_off;
 use crate::sum::{Sum, cost_of};
 use crate::tag::Tag;
-use crate::taking::{component_of, take_component};
+use crate::taking::take_component;
 use crate::working::add_top;
 use costs::kind::CostKind;
 
@@ -34,7 +34,7 @@ fn take_all<K: CostKind>(
         let taken = take_component(problem, shut, number, tags, working);
         total = add_top(
             problem.kind,
-            component_of(problem.study, number).parent,
+            problem.study.components()[number].parent,
             total,
             taken.first,
         );

@@ -1,4 +1,4 @@
-use Rattle.std.proofs.Common.{◌≡◌, ◌-◌, length, ap, ◌∙◌, arith}
+use Rattle.std.proofs.Common.{◌≡◌, ◌-◌, length, get_or, ap, ◌∙◌, arith}
 use Rattle.model.specs.Studies.{model}
 use Rattle.model.proofs.Limited.{limited}
 use Rattle.plans.specs.Questions.{count}
@@ -6,6 +6,7 @@ use Rattle.theory.specs.Tables.{sums_at}
 use Rattle.solving.specs.Sums.{held}
 use Rattle.solving.specs.Working.{view}
 use Rattle.solving.specs.Steps.{tabled}
+use Rattle.solving.proofs.Tabled.{unread, component_at}
 use Rattle.solving.proofs.AllTaken.{none_taken, one_taken}
 use Rattle.solving.proofs.walk.take_all.Goals as goal
 
@@ -18,7 +19,7 @@ loop-number-preserved g c = λ o offers blank.
     let l = c.loop-number in
     let s = model c.args.problem.now.study.now in
     let all : length c.components-number.result.now ≡ count s = ap length c.components-number.ensures in
-    one_taken g.K.CostKind.adding g.K.CostKind.lower s (limited c.args.problem.now.study.now) o c.args.problem.now.survey.now c.args.shut.now l.number (l.number - 1) c.component_of.result l.total c.add_top-total.result c.take_component-taken.result l.notes (view l.tags l.working) (view c.take_component-taken.new.tags c.take_component-taken.new.working) (omega arith) (omega arith) (omega arith) c.component_of.ensures offers (l.invariant o offers blank) c.take_component-taken.ensures c.add_top-total.ensures
+    one_taken g.K.CostKind.adding g.K.CostKind.lower s (limited c.args.problem.now.study.now) o c.args.problem.now.survey.now c.args.shut.now l.number (l.number - 1) (get_or c.components.result.now (l.number - 1) unread) l.total c.add_top-total.result c.take_component-taken.result l.notes (view l.tags l.working) (view c.take_component-taken.new.tags c.take_component-taken.new.working) (omega arith) (omega arith) (omega arith) (component_at s c.components.result.now (l.number - 1) c.components.ensures (omega arith)) offers (l.invariant o offers blank) c.take_component-taken.ensures c.add_top-total.ensures
 
 pub returns : goal.returns
 returns g c = λ o offers blank.
