@@ -36,21 +36,14 @@ pub fn solve<B: ChargeBook, K: CostKind>(
     if working.len() < count * usize::from(study.echelons()) {
         return Err(Refusal::ShortWorking);
     }
-    let survey = match survey(study, book) {
-        Ok(survey) => survey,
-        Err(fault) => return Err(Refusal::BookFault(fault)),
-    };
+    let survey = survey(study, book)?;
     let problem = Problem {
         kind,
         study,
         survey: &survey,
     };
     let found = find(&problem, working);
-    match found.cost {
-        None => Err(Refusal::NoPlan),
-        Some(cost) => {
-            plan[0..count].copy_from_slice(&found.plan[0..count]);
-            Ok(cost)
-        }
-    }
+    let cost = found.cost.ok_or(Refusal::NoPlan)?;
+    plan[..count].copy_from_slice(&found.plan[..count]);
+    Ok(cost)
 }
