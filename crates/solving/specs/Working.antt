@@ -1,5 +1,5 @@
 -- The working costs and their tags, read as one list of sums.
-use Rattle.std.specs.Prelude.{◌≡◌, ℕ, ◌+◌, ◌*◌, ◌<◌, ◌≤◌, List, [], ◌∷◌, length, Some, None, Option, slice_index_or, slice_set}
+use Rattle.std.specs.Prelude.{◌≡◌, ℕ, ◌+◌, ◌*◌, ◌<◌, ◌≤◌, List, [], ◌∷◌, length, replicate, Some, None, Option, slice_index_or, slice_set}
 use Rattle.costs.specs.Kinds.{Adding}
 use Rattle.costs.specs.Postings.{most}
 use Rattle.model.specs.Studies.{Model}
@@ -9,6 +9,7 @@ use Rattle.solving.specs.declared.tag.Tag.{Tag}
 use Rattle.solving.specs.declared.tag.Tag.TheVariants as tag
 use Rattle.solving.specs.declared.sum.Sum.{Sum}
 use Rattle.solving.specs.declared.sum.Sum.TheVariants.{Nothing, Cost, Closed}
+use Rattle.solving.specs.declared.tag.Cells.{Cells}
 use Rattle.solving.specs.Sums.{held, Joins}
 
 -- what a tag and a working cost say together
@@ -22,9 +23,17 @@ view [] ws = []
 view (t ∷ ts) [] = []
 view (t ∷ ts) (w ∷ ws) = sum_of t w ∷ view ts ws
 
+-- the sums that the cells hold
+abbrev pub sums : {C : Type 0} → Cells C → List (Sum C)
+sums c = view c.tags c.costs.now
+
+-- cells in which nothing is posted
+abbrev pub blank : {C : Type 0} → List C → List (Sum C)
+blank costs = view (replicate 240 tag.Nothing) costs
+
 -- one cell for each component and echelon
-abbrev pub cells : Model → ℕ
-cells s = count s * s.echelons
+abbrev pub cell_count : Model → ℕ
+cell_count s = count s * s.echelons
 
 -- a parent's cell at an echelon, where there are so many echelons, is one of so many cells
 abbrev pub Room : Option ℕ → ℕ → ℕ → ℕ → Type 0

@@ -1,4 +1,5 @@
-// What the tag of a working cost says.
+// The cells of a walk: in each a working cost, and a tag that says what it is.
+ghost use Rattle.std.specs.Prelude.{◌≤◌, length};
 
 // Nothing is posted yet, or the working cost is the sum, or the sum is closed.
 #[derive(Clone, Copy)]
@@ -6,4 +7,12 @@ pub(crate) enum Tag {
     Nothing,
     Cost,
     Closed,
+}
+
+// Stays: the costs are the caller's, with the tags beside them, since a solve takes a bare list of costs and no memory.
+#[derive(Drop)]
+pub(crate) struct Cells<'a, C: Copy> {
+    pub tags: [Tag; 240],
+    pub costs: &'a mut [C],
+    ghost tag_for_each: { length costs.now ≤ length tags },
 }
