@@ -1,9 +1,11 @@
 -- Taking the components one after another, from the last to the first.
-use Rattle.std.proofs.Common.{◌≡◌, ℕ, suc, ◌<◌, ◌≤◌, Bool, List, [], length, get_or, set, Some, None, Option, sym, refl, ap, ◌∙◌, subst, ⊎_elim, arith}
+use Rattle.std.proofs.Common.{◌≡◌, ℕ, suc, ◌+◌, ◌<◌, ◌≤◌, Bool, List, [], ◌∷◌, ◌++◌, length, get_or, set, Some, None, Option, sym, refl, ap, ◌∙◌, subst, ⊎_elim, append_assoc, length-append, arith}
+use Rattle.std.proofs.Math.Seq.{get_or-append_seam}
 use Rattle.std.proofs.lemmas.List.{get_or-set_same, get_or-set_other}
 use Rattle.std.proofs.lemmas.Bool.{cases_eq}
 use Rattle.costs.specs.Kinds.{Adding}
 use Rattle.model.specs.declared.component.Component.{Component}
+use Rattle.model.specs.Components.{no_component}
 use Rattle.model.specs.Studies.{Model, Limits}
 use Rattle.plans.specs.Questions.{count}
 use Rattle.plans.specs.Postings.{component}
@@ -21,6 +23,27 @@ use Rattle.solving.specs.Working.{AddsTop}
 use Rattle.solving.specs.Steps.{tabled, OffersAll, Cells, Noted, best_on, TakesOne}
 use Rattle.solving.proofs.Stepping.{whole_top, whole_under, whole_room}
 use Rattle.solving.proofs.Whole.{sums_none}
+
+-- the components that are left, counted from 0: they stand before those that are taken
+pub record Left (s : Model) (first : ℕ) (left : List Component) : Type 0 where
+  pub from_zero : first ≡ 0
+  pub taken : List Component
+  pub all : left ++ taken ≡ s.components
+
+-- the last of them is the component of its number
+pub last_left : (s : Model) (first first' number : ℕ) (left left' : List Component) (c : Component) → Left s first left → first' ≡ first → left ≡ left' ++ c ∷ [] → number ≡ first + length left' → Left s first' left' × (c ≡ component s number) × (number < count s) × (length left' ≡ number) × (length left ≡ suc number)
+last_left s first first' number left left' c parts same is numbered =
+    let zero = parts.from_zero in
+    let whole : left' ++ c ∷ parts.taken ≡ s.components = sym (append_assoc left' (c ∷ []) parts.taken) ∙ ap (λ xs. xs ++ parts.taken) (sym is) ∙ parts.all in
+    let n : length left' ≡ number = omega arith in
+    let long = ap length whole in
+    let more = ap length is in (
+      record { from_zero = omega arith; taken = c ∷ parts.taken; all = whole },
+      sym (ap (λ xs. get_or xs number no_component) (sym whole) ∙ ap (λ i. get_or (left' ++ c ∷ parts.taken) i no_component) (sym n) ∙ get_or-append_seam left' c parts.taken no_component),
+      omega (arith, length-append left' (c ∷ parts.taken)),
+      n,
+      omega (arith, length-append left' (c ∷ [])),
+    )
 
 -- the components from n on are taken
 pub record Done {C : Type 0} (k : Adding C) (lower : C → C → Bool) (s : Model) (o : ℕ → Options) (n : ℕ) (sum : Sum C) (noted : List (List ℕ)) (cells : List (Sum C)) : Type 0 where

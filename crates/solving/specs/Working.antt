@@ -1,5 +1,5 @@
 -- The working costs and their tags, read as one list of sums.
-use Rattle.std.specs.Prelude.{◌≡◌, ℕ, ◌+◌, ◌*◌, ◌<◌, ◌≤◌, List, [], ◌∷◌, length, replicate, Some, None, Option, slice_index_or, slice_set}
+use Rattle.std.specs.Prelude.{◌≡◌, ℕ, ◌+◌, ◌*◌, ◌<◌, ◌≤◌, List, [], ◌∷◌, length, Some, None, Option, slice_index_or, slice_set}
 use Rattle.costs.specs.Kinds.{Adding}
 use Rattle.costs.specs.Postings.{most}
 use Rattle.model.specs.Studies.{Model}
@@ -25,11 +25,7 @@ view (t ∷ ts) (w ∷ ws) = sum_of t w ∷ view ts ws
 
 -- the sums that the cells hold
 abbrev pub sums : {C : Type 0} → Cells C → List (Sum C)
-sums c = view c.tags c.costs.now
-
--- cells in which nothing is posted
-abbrev pub blank : {C : Type 0} → List C → List (Sum C)
-blank costs = view (replicate 240 tag.Nothing) costs
+sums c = view c.tags.now c.costs.now
 
 -- one cell for each component and echelon
 abbrev pub cell_count : Model → ℕ

@@ -11,8 +11,8 @@ pub(crate) enum Tag {
 
 // Stays: the costs are the caller's, with the tags beside them, since a solve takes a bare list of costs and no memory.
 #[derive(Drop)]
-pub(crate) struct Cells<'a, C: Copy> {
-    pub tags: [Tag; 240],
+pub(crate) struct Cells<'t, 'a, C: Copy> {
+    pub tags: &'t mut [Tag],
     pub costs: &'a mut [C],
-    ghost tag_for_each: { length costs.now ≤ length tags },
+    ghost tag_for_each: { length costs.now ≤ length tags.now },
 }

@@ -12,7 +12,7 @@ use crate::mark::Marks;
 use crate::problem::Problem;
 use crate::reading::read_off;
 use crate::sum::{Sum, cost_of};
-use crate::tag::Cells;
+use crate::tag::{Cells, Tag};
 use crate::taking::take_component;
 use crate::working::add_top;
 use costs::kind::CostKind;
@@ -29,14 +29,9 @@ fn take_all<K: CostKind>(
     ensures { TakesAll K.adding K.lower (model problem.now.study.now) problem.now.survey.now shut.now (sums cells.old) notes.new result }
 {
     let mut total = Sum::Nothing;
-    for number in (0..problem.study.components().len()).rev() {
+    for (number, component) in problem.study.components().iter().enumerate().rev() {
         let taken = take_component(problem, shut, number, cells);
-        total = add_top(
-            problem.kind,
-            problem.study.components()[number].parent,
-            total,
-            taken.first,
-        );
+        total = add_top(problem.kind, component.parent, total, taken.first);
         notes[number] = taken.bytes;
     }
     total
@@ -53,7 +48,11 @@ pub(crate) fn walk<K: CostKind>(
 {
     let shut = shut_masks(marks, problem.study.resources());
     let size = problem.study.components().len() * usize::from(problem.study.echelons());
-    let mut cells = Cells::blank(&mut working[..size]);
+    let mut tags = [Tag::Nothing; 240];
+    let mut cells = Cells {
+        tags: &mut tags[..],
+        costs: &mut working[..size],
+    };
     let mut notes = [[0; 4]; 60];
     let mut plan = [0; 60];
     let total = take_all(problem, &shut, &mut cells, &mut notes);

@@ -1,25 +1,13 @@
 // The sums of the walk: the caller's working costs with a tag for each, one cell for each component and echelon.
 ghost use Rattle.std.specs.Prelude.{◌≡◌, ◌*◌, ◌<◌, ◌≤◌, length, slice_index_or, slice_set};
 ghost use Rattle.solving.specs.declared.sum.Sum.TheVariants.{Closed};
-ghost use Rattle.solving.specs.Working.{sums, blank, Room, AddsAbove, AddsTop};
+ghost use Rattle.solving.specs.Working.{sums, Room, AddsAbove, AddsTop};
 
 use crate::sum::{Sum, both};
 use crate::tag::{Cells, Tag};
 use costs::kind::CostKind;
 
-impl<'a, C: Copy> Cells<'a, C> {
-    // Nothing is posted in any cell yet.
-    pub(crate) fn blank(costs: &'a mut [C]) -> Cells<'a, C>
-        requires { length costs.old ≤ 240 }
-        ensures blank { sums result ≡ blank costs.old }
-        ensures size { length result.costs.now ≡ length costs.old }
-    {
-        Cells {
-            tags: [Tag::Nothing; 240],
-            costs,
-        }
-    }
-
+impl<C: Copy> Cells<'_, '_, C> {
     // Reads a cell.
     pub(crate) fn sum_at(&self, cell: usize) -> Sum<C>
         requires { cell < length self.now.costs.now }

@@ -53,7 +53,7 @@ loop-echelon-preserved g c = (
       let last : c.from-echelons.result ≡ s.echelons = c.from-echelons.ensures ∙ c.echelons.ensures in
       let here : e < s.echelons = omega arith in
       let read = component_at s c.components.result.now i c.components.ensures c.requires.entered in
-      let room = view_length l.cells.tags l.cells.costs.now (count s * s.echelons) (omega arith) (omega arith) in
+      let room = view_length l.cells.tags.now l.cells.costs.now (count s * s.echelons) (omega arith) (omega arith) in
       let way = way_found k lower s t c.args.shut.now i e c.from-echelons.result comp c.allowed-choices.result cells c.sum_at-under.result onward c.way_on-onward.result c.requires.entered here last read c.allowed-choices.ensures c.sum_at-under.ensures c.way_on-onward.ensures in
       turn k lower s limits o i c.requires.entered t c.args.shut.now l.echelon e c.from-echelons.result comp onward c.way_on-onward.result l.bytes cells (sums c.add_above.new.cells) (omega arith) here last read (omega (arith, l.invariant.0, limits.few_echelons)) room offers (l.invariant.2 o offers stand) way c.add_above.ensures.added,
 )

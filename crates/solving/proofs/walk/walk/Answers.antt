@@ -24,7 +24,7 @@ pub take_all-total-requires : goal.take_all-total-requires
 take_all-total-requires g c =
     let s = model c.args.problem.now.study.now in
     let n : length c.components.result.now * c.from.result ≡ cell_count s = ap₂ ◌*◌ (ap length c.components.ensures) (c.from.ensures ∙ c.echelons.ensures) in
-    record { room = omega (arith, c.requires, c.blank-cells.ensures.size, length-take (length c.components.result.now * c.from.result) c.args.working.now); notes_long_enough = (limited c.args.problem.now.study.now).few_components }
+    record { room = omega (arith, c.requires, length-take (length c.components.result.now * c.from.result) c.args.working.now); notes_long_enough = (limited c.args.problem.now.study.now).few_components }
 
 pub returns : goal.returns
 returns g c limits b kept keeps =
@@ -39,7 +39,7 @@ returns g c limits b kept keeps =
     let n : length c.components.result.now * c.from.result ≡ cell_count s = ap₂ ◌*◌ (ap length c.components.ensures) (c.from.ensures ∙ c.echelons.ensures) in
     let room : cell_count s ≤ length ws = omega (arith, c.requires, length-take (length c.components.result.now * c.from.result) c.args.working.now) in
     let masks : c.shut_masks-shut.result ≡ shut_masks marks s.resources = c.shut_masks-shut.ensures ∙ ap (shut_masks marks) c.resources.ensures in
-    let empty = subst (Cells k s.echelons (count s) (λ _ _. nothing)) (sym c.blank-cells.ensures.blank) (cells_blank k s limits ws room) in
+    let empty = cells_blank k s limits ws room in
     let took = c.take_all-total.ensures o (subst (λ v. OffersAll s t v o) (sym masks) (offers_all s limits b kept t marks keeps)) empty in
     let long : count s ≤ length c.read_off.new.plan = omega (arith, limits.few_components, c.read_off.auto.plan) in
     (c.cost_of.ensures k (sums_at k lower (tabled s o) 0 0 0) (whole_posts k lower s limits o c.args.problem.now.some_component) took.0 ∙ sym (walked_value k lower s limits o laws), plan_is k lower s limits o c.take_all-total.new.notes c.read_off.new.plan took.1 c.read_off.ensures long)

@@ -11,7 +11,7 @@ returns-in-Nothing g c = view_none _ _ _ Nothing Nothing _ (λ w. refl) c.in-Not
 pub returns-in-Cost : goal.returns-in-Cost
 returns-in-Cost g c =
     let w = c.index-self-cell.result in
-    let l : c.args.cell < length c.args.self.now.tags = omega arith in
+    let l : c.args.cell < length c.args.self.now.tags.now = omega arith in
     sym (view_at _ _ _ Nothing w l c.requires ∙ ap (λ t. sum_of t (get_or c.args.self.now.costs.now c.args.cell w)) c.in-Cost.is)
 
 pub returns-in-Closed : goal.returns-in-Closed
