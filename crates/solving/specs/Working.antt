@@ -9,7 +9,6 @@ use Rattle.solving.specs.declared.tag.Tag.{Tag}
 use Rattle.solving.specs.declared.tag.Tag.TheVariants as tag
 use Rattle.solving.specs.declared.sum.Sum.{Sum}
 use Rattle.solving.specs.declared.sum.Sum.TheVariants.{Nothing, Cost, Closed}
-use Rattle.solving.specs.declared.tag.Cells.{Cells}
 use Rattle.solving.specs.Sums.{held, Joins}
 
 -- what a tag and a working cost say together
@@ -23,13 +22,9 @@ view [] ws = []
 view (t ∷ ts) [] = []
 view (t ∷ ts) (w ∷ ws) = sum_of t w ∷ view ts ws
 
--- the sums that the cells hold
-abbrev pub sums : {C : Type 0} → Cells C → List (Sum C)
-sums c = view c.tags.now c.costs.now
-
 -- one cell for each component and echelon
-abbrev pub cell_count : Model → ℕ
-cell_count s = count s * s.echelons
+abbrev pub cells : Model → ℕ
+cells s = count s * s.echelons
 
 -- a parent's cell at an echelon, where there are so many echelons, is one of so many cells
 abbrev pub Room : Option ℕ → ℕ → ℕ → ℕ → Type 0

@@ -3,7 +3,7 @@ ghost use Rattle.std.specs.Prelude.{◌≡◌, ◌≤◌, length};
 ghost use Rattle.model.specs.Studies.{model};
 ghost use Rattle.planning.specs.Surveys.{by_echelon};
 ghost use Rattle.solving.specs.Marked.{is_held, held_at};
-ghost use Rattle.solving.specs.Working.{cell_count};
+ghost use Rattle.solving.specs.Working.{cells};
 ghost use Rattle.solving.specs.Bounds.{AddsHeld, Bounds};
 
 use crate::best::Best;
@@ -48,7 +48,7 @@ pub(crate) fn bound<K: CostKind>(
     marks: &Marks,
     working: &mut [K::Cost],
 ) -> Best<K::Cost>
-    requires { cell_count (model problem.now.study.now) ≤ length working.old }
+    requires { cells (model problem.now.study.now) ≤ length working.old }
     ensures { Bounds K.adding K.lower (model problem.now.study.now) problem.now.survey.now marks.now result }
 {
     let found = walk(problem, marks, working);

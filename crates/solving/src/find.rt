@@ -1,7 +1,7 @@
 // The search of all plans, which begins with no plan and with every open pair free.
 ghost use Rattle.std.specs.Prelude.{◌≡◌, ◌≤◌, length};
 ghost use Rattle.model.specs.Studies.{model};
-ghost use Rattle.solving.specs.Working.{cell_count};
+ghost use Rattle.solving.specs.Working.{cells};
 ghost use Rattle.solving.specs.Least.{first_mark, first_line, FirstMarks, FindsLeast};
 
 use crate::best::Best;
@@ -37,7 +37,7 @@ fn first_marks(survey: &Survey) -> Marks
 
 // The least plan with its cost, the first in reading order; without a cost where there is no plan.
 pub(crate) fn find<K: CostKind>(problem: &Problem<K>, working: &mut [K::Cost]) -> Best<K::Cost>
-    requires { cell_count (model problem.now.study.now) ≤ length working.old }
+    requires { cells (model problem.now.study.now) ≤ length working.old }
     ensures { FindsLeast K.adding K.lower (model problem.now.study.now) problem.now.survey.now result }
 {
     let marks = first_marks(problem.survey);

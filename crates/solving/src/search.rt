@@ -1,7 +1,7 @@
 // The search over marks of pairs.
 ghost use Rattle.std.specs.Prelude.{◌≡◌, ◌≤◌, length};
 ghost use Rattle.model.specs.Studies.{model};
-ghost use Rattle.solving.specs.Working.{cell_count};
+ghost use Rattle.solving.specs.Working.{cells};
 ghost use Rattle.solving.specs.Finds.{Searches};
 
 use crate::best::Best;
@@ -21,7 +21,7 @@ pub(crate) fn search<K: CostKind>(
     best: Best<K::Cost>,
     working: &mut [K::Cost],
 ) -> Best<K::Cost>
-    requires { cell_count (model problem.now.study.now) ≤ length working.old }
+    requires { cells (model problem.now.study.now) ≤ length working.old }
     ensures { Searches K.adding K.lower (model problem.now.study.now) problem.now.survey.now marks best result }
 {
     let found = bound(problem, &marks, working);

@@ -2,15 +2,15 @@
 ghost use Rattle.std.specs.Prelude.{◌≡◌, ◌<◌, ◌≤◌, length};
 ghost use Rattle.model.specs.Studies.{model};
 ghost use Rattle.plans.specs.Questions.{count};
-ghost use Rattle.solving.specs.Working.{cell_count, sums};
+ghost use Rattle.solving.specs.Working.{cells, view};
 ghost use Rattle.solving.specs.Steps.{TakesOne};
 
 use crate::allowed::allowed;
 use crate::choice::{no_way, way_on};
 use crate::problem::Problem;
 use crate::sum::Sum;
-use crate::tag::Cells;
-use crate::working::add_above;
+use crate::tag::Tag;
+use crate::working::{add_above, sum_at};
 use costs::kind::CostKind;
 
 // The sum of the best way on from the first echelon, and the byte noted for each echelon.
@@ -25,12 +25,12 @@ pub(crate) fn take_component<K: CostKind>(
     problem: &Problem<K>,
     shut: &[u8; 4],
     number: usize,
-    cells: &mut Cells<K::Cost>,
+    tags: &mut [Tag],
+    working: &mut [K::Cost],
 ) -> Taken<K::Cost>
     requires entered { number < count (model problem.now.study.now) }
-    requires room { cell_count (model problem.now.study.now) ≤ length cells.old.costs.now }
-    ensures size { length cells.new.costs.now ≡ length cells.old.costs.now }
-    ensures taken { TakesOne K.adding K.lower (model problem.now.study.now) problem.now.survey.now shut.now number (sums cells.old) (sums cells.new) result }
+    requires tables_long_enough { (cells (model problem.now.study.now) ≤ length tags.old) × (cells (model problem.now.study.now) ≤ length working.old) }
+    ensures { TakesOne K.adding K.lower (model problem.now.study.now) problem.now.survey.now shut.now number (view tags.old working.old) (view tags.new working.new) result }
 {
     let component = problem.study.components()[number];
     let row = &problem.survey.options[number];
@@ -39,7 +39,7 @@ pub(crate) fn take_component<K: CostKind>(
     let mut onward = no_way();
     for echelon in (0..echelons).rev() {
         let choices = allowed(row[echelon], component.needs, shut[echelon]);
-        let under = cells.sum_at(number * echelons + echelon);
+        let under = sum_at(tags, working, number * echelons + echelon);
         onward = way_on(problem.kind, choices, echelon as u8 + 1, under, onward);
         add_above(
             problem.kind,
@@ -47,7 +47,8 @@ pub(crate) fn take_component<K: CostKind>(
             echelons,
             echelon,
             onward.sum,
-            cells,
+            tags,
+            working,
         );
         bytes[echelon] = onward.byte;
     }

@@ -4,7 +4,7 @@ ghost use Rattle.model.specs.Studies.{model};
 ghost use Rattle.plans.specs.Questions.{count};
 ghost use Rattle.solving.specs.Finds.{Walks};
 ghost use Rattle.solving.specs.Steps.{TakesAll};
-ghost use Rattle.solving.specs.Working.{cell_count, sums};
+ghost use Rattle.solving.specs.Working.{cells, view};
 
 use crate::allowed::shut_masks;
 use crate::best::Best;
@@ -12,7 +12,7 @@ use crate::mark::Marks;
 use crate::problem::Problem;
 use crate::reading::read_off;
 use crate::sum::{Sum, cost_of};
-use crate::tag::{Cells, Tag};
+use crate::tag::Tag;
 use crate::taking::take_component;
 use crate::working::add_top;
 use costs::kind::CostKind;
@@ -21,16 +21,17 @@ use costs::kind::CostKind;
 fn take_all<K: CostKind>(
     problem: &Problem<K>,
     shut: &[u8; 4],
-    cells: &mut Cells<K::Cost>,
+    tags: &mut [Tag],
+    working: &mut [K::Cost],
     notes: &mut [[u8; 4]],
 ) -> Sum<K::Cost>
-    requires room { cell_count (model problem.now.study.now) ≤ length cells.old.costs.now }
+    requires tables_long_enough { (cells (model problem.now.study.now) ≤ length tags.old) × (cells (model problem.now.study.now) ≤ length working.old) }
     requires notes_long_enough { count (model problem.now.study.now) ≤ length notes.old }
-    ensures { TakesAll K.adding K.lower (model problem.now.study.now) problem.now.survey.now shut.now (sums cells.old) notes.new result }
+    ensures { TakesAll K.adding K.lower (model problem.now.study.now) problem.now.survey.now shut.now (view tags.old working.old) notes.new result }
 {
     let mut total = Sum::Nothing;
     for (number, component) in problem.study.components().iter().enumerate().rev() {
-        let taken = take_component(problem, shut, number, cells);
+        let taken = take_component(problem, shut, number, tags, working);
         total = add_top(problem.kind, component.parent, total, taken.first);
         notes[number] = taken.bytes;
     }
@@ -43,19 +44,14 @@ pub(crate) fn walk<K: CostKind>(
     marks: &Marks,
     working: &mut [K::Cost],
 ) -> Best<K::Cost>
-    requires { cell_count (model problem.now.study.now) ≤ length working.old }
+    requires { cells (model problem.now.study.now) ≤ length working.old }
     ensures { Walks K.adding K.lower (model problem.now.study.now) problem.now.survey.now marks.now result }
 {
     let shut = shut_masks(marks, problem.study.resources());
-    let size = problem.study.components().len() * usize::from(problem.study.echelons());
     let mut tags = [Tag::Nothing; 240];
-    let mut cells = Cells {
-        tags: &mut tags[..],
-        costs: &mut working[..size],
-    };
     let mut notes = [[0; 4]; 60];
     let mut plan = [0; 60];
-    let total = take_all(problem, &shut, &mut cells, &mut notes);
+    let total = take_all(problem, &shut, &mut tags, working, &mut notes);
     read_off(problem.study, &notes, &mut plan);
     Best {
         cost: cost_of(total),

@@ -1,39 +1,36 @@
 // The sums of the walk: the caller's working costs with a tag for each, one cell for each component and echelon.
 ghost use Rattle.std.specs.Prelude.{◌≡◌, ◌*◌, ◌<◌, ◌≤◌, length, slice_index_or, slice_set};
 ghost use Rattle.solving.specs.declared.sum.Sum.TheVariants.{Closed};
-ghost use Rattle.solving.specs.Working.{sums, Room, AddsAbove, AddsTop};
+ghost use Rattle.solving.specs.Working.{view, Room, AddsAbove, AddsTop};
 
 use crate::sum::{Sum, both};
-use crate::tag::{Cells, Tag};
+use crate::tag::Tag;
 use costs::kind::CostKind;
 
-impl<C: Copy> Cells<'_, '_, C> {
-    // Reads a cell.
-    pub(crate) fn sum_at(&self, cell: usize) -> Sum<C>
-        requires { cell < length self.now.costs.now }
-        ensures { result ≡ slice_index_or (sums self.now) cell Closed }
-    {
-        match self.tags[cell] {
-            Tag::Nothing => Sum::Nothing,
-            Tag::Cost => Sum::Cost(self.costs[cell]),
-            Tag::Closed => Sum::Closed,
-        }
+// Reads a cell.
+pub(crate) fn sum_at<C: Copy>(tags: &[Tag], working: &[C], cell: usize) -> Sum<C>
+    requires { (cell < length tags.now) × (cell < length working.now) }
+    ensures { result ≡ slice_index_or (view tags.now working.now) cell Closed }
+{
+    match tags[cell] {
+        Tag::Nothing => Sum::Nothing,
+        Tag::Cost => Sum::Cost(working[cell]),
+        Tag::Closed => Sum::Closed,
     }
+}
 
-    // Writes a cell.
-    fn put(&mut self, cell: usize, sum: Sum<C>)
-        requires { cell < length self.old.costs.now }
-        ensures size { length self.new.costs.now ≡ length self.old.costs.now }
-        ensures written { sums self.new ≡ slice_set (sums self.old) cell sum }
-    {
-        match sum {
-            Sum::Nothing => self.tags[cell] = Tag::Nothing,
-            Sum::Cost(cost) => {
-                self.tags[cell] = Tag::Cost;
-                self.costs[cell] = cost;
-            }
-            Sum::Closed => self.tags[cell] = Tag::Closed,
+// Writes a cell.
+fn put_sum<C: Copy>(tags: &mut [Tag], working: &mut [C], cell: usize, sum: Sum<C>)
+    requires { (cell < length tags.old) × (cell < length working.old) }
+    ensures { view tags.new working.new ≡ slice_set (view tags.old working.old) cell sum }
+{
+    match sum {
+        Sum::Nothing => tags[cell] = Tag::Nothing,
+        Sum::Cost(c) => {
+            tags[cell] = Tag::Cost;
+            working[cell] = c;
         }
+        Sum::Closed => tags[cell] = Tag::Closed,
     }
 }
 
@@ -44,16 +41,16 @@ pub(crate) fn add_above<K: CostKind>(
     echelons: usize,
     echelon: usize,
     sum: Sum<K::Cost>,
-    cells: &mut Cells<K::Cost>,
+    tags: &mut [Tag],
+    working: &mut [K::Cost],
 )
-    requires { (Room parent echelons echelon (length cells.old.costs.now)) × ((echelons ≤ 4) × (echelon < 4)) }
-    ensures size { length cells.new.costs.now ≡ length cells.old.costs.now }
-    ensures added { AddsAbove K.adding parent echelons echelon sum (sums cells.old) (sums cells.new) }
+    requires { (Room parent echelons echelon (length tags.old)) × ((Room parent echelons echelon (length working.old)) × ((echelons ≤ 4) × (echelon < 4))) }
+    ensures { AddsAbove K.adding parent echelons echelon sum (view tags.old working.old) (view tags.new working.new) }
 {
     if let Some(parent) = parent {
         let cell = usize::from(parent) * echelons + echelon;
-        let more = both(kind, cells.sum_at(cell), sum);
-        cells.put(cell, more);
+        let more = both(kind, sum_at(tags, working, cell), sum);
+        put_sum(tags, working, cell, more);
     }
 }
 

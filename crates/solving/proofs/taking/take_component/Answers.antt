@@ -3,7 +3,7 @@ use Rattle.model.specs.Studies.{model}
 use Rattle.model.proofs.Limited.{limited}
 use Rattle.plans.specs.Questions.{count}
 use Rattle.solving.specs.declared.choice.Choice.{Choice}
-use Rattle.solving.specs.Working.{sums}
+use Rattle.solving.specs.Working.{view}
 use Rattle.solving.proofs.Tabled.{unread, component_at}
 use Rattle.solving.proofs.Views.{view_length}
 use Rattle.solving.proofs.Cells.{parent_room}
@@ -22,22 +22,20 @@ add_above-requires g c =
     let read = component_at s c.components.result.now i c.components.ensures c.requires.entered in
     let room = parent_room s limits (get_or c.components.result.now i unread) i c.from-echelons.result e in
     let here : e < c.from-echelons.result = omega arith in
-    (room (length l.cells.costs.now) read last c.requires.entered here (omega arith), (omega arith, omega arith))
+    (room (length l.tags) read last c.requires.entered here (omega arith), (room (length l.working) read last c.requires.entered here (omega arith), (omega arith, omega arith)))
 
 pub loop-echelon-init : goal.loop-echelon-init
 loop-echelon-init g c = (
   refl,
-  refl,
   λ o offers stand.
       let s = model c.args.problem.now.study.now in
       let last : c.from-echelons.result ≡ s.echelons = c.from-echelons.ensures ∙ c.echelons.ensures in
-      none_done g.K.CostKind.adding g.K.CostKind.lower s (limited c.args.problem.now.study.now) o c.args.number c.requires.entered c.from-echelons.result c.no_way-onward.result _ (sums c.args.cells.now) last (c.no_way-onward.ensures g.K.CostKind.adding) stand,
+      none_done g.K.CostKind.adding g.K.CostKind.lower s (limited c.args.problem.now.study.now) o c.args.number c.requires.entered c.from-echelons.result c.no_way-onward.result _ (view c.args.tags.now c.args.working.now) last (c.no_way-onward.ensures g.K.CostKind.adding) stand,
 )
 
 pub loop-echelon-preserved : goal.loop-echelon-preserved
 loop-echelon-preserved g c = (
   simp length-set c.loop-echelon.invariant.0,
-  c.add_above.ensures.size ∙ c.loop-echelon.invariant.1,
   λ o offers stand.
       let k = g.K.CostKind.adding in
       let lower = g.K.CostKind.lower in
@@ -49,16 +47,16 @@ loop-echelon-preserved g c = (
       let limits = limited c.args.problem.now.study.now in
       let comp = get_or c.components.result.now i unread in
       let onward : Choice g.row.K-Cost.Denot = record { byte = l.onward.0; sum = l.onward.1.0 } in
-      let cells = sums l.cells in
+      let cells = view l.tags l.working in
       let last : c.from-echelons.result ≡ s.echelons = c.from-echelons.ensures ∙ c.echelons.ensures in
       let here : e < s.echelons = omega arith in
       let read = component_at s c.components.result.now i c.components.ensures c.requires.entered in
-      let room = view_length l.cells.tags.now l.cells.costs.now (count s * s.echelons) (omega arith) (omega arith) in
+      let room = view_length l.tags l.working (count s * s.echelons) (omega arith) (omega arith) in
       let way = way_found k lower s t c.args.shut.now i e c.from-echelons.result comp c.allowed-choices.result cells c.sum_at-under.result onward c.way_on-onward.result c.requires.entered here last read c.allowed-choices.ensures c.sum_at-under.ensures c.way_on-onward.ensures in
-      turn k lower s limits o i c.requires.entered t c.args.shut.now l.echelon e c.from-echelons.result comp onward c.way_on-onward.result l.bytes cells (sums c.add_above.new.cells) (omega arith) here last read (omega (arith, l.invariant.0, limits.few_echelons)) room offers (l.invariant.2 o offers stand) way c.add_above.ensures.added,
+      turn k lower s limits o i c.requires.entered t c.args.shut.now l.echelon e c.from-echelons.result comp onward c.way_on-onward.result l.bytes cells (view c.add_above.new.tags c.add_above.new.working) (omega arith) here last read (omega (arith, l.invariant.0, limits.few_echelons)) room offers (l.invariant.1 o offers stand) way c.add_above.ensures,
 )
 
-pub returns-clause-taken : goal.returns-clause-taken
-returns-clause-taken g c = λ o offers stand.
+pub returns : goal.returns
+returns g c = λ o offers stand.
     let l = c.loop-echelon in
-    all_done g.K.CostKind.adding g.K.CostKind.lower (model c.args.problem.now.study.now) (limited c.args.problem.now.study.now) o c.args.number c.requires.entered l.echelon (record { byte = l.onward.0; sum = l.onward.1.0 }) l.bytes (sums l.cells) (omega arith) (l.invariant.2 o offers stand)
+    all_done g.K.CostKind.adding g.K.CostKind.lower (model c.args.problem.now.study.now) (limited c.args.problem.now.study.now) o c.args.number c.requires.entered l.echelon (record { byte = l.onward.0; sum = l.onward.1.0 }) l.bytes (view l.tags l.working) (omega arith) (l.invariant.1 o offers stand)
