@@ -1,5 +1,5 @@
 -- The search of all plans begins with no pair held and the closed pairs shut, so it finds the first of the least plans.
-use Rattle.std.proofs.Common.{◌≡◌, ℕ, zero, suc, ◌*◌, ◌/◌, ◌%◌, ◌<◌, ◌≤◌, Bool, false, not, ◌||◌, leb, List, ◌++◌, get_or, take, Some, None, Option, sym, refl, ap, ◌∙◌, subst, mod-lt, div-lt_iff_lt-mul, arith}
+use Rattle.std.proofs.Common.{◌≡◌, ℕ, suc, ◌*◌, ◌/◌, ◌%◌, ◌<◌, ◌≤◌, Bool, false, not, ◌||◌, leb, List, ◌++◌, get_or, take, Some, None, Option, sym, refl, ap, ◌∙◌, subst, mod-lt, div-lt_iff_lt-mul, arith}
 use Rattle.std.proofs.lemmas.Bool.{cond-true, le-leb}
 use Rattle.costs.specs.declared.posting.Posting.{Posting}
 use Rattle.costs.specs.Kinds.{Adding, Laws}
@@ -11,7 +11,7 @@ use Rattle.model.specs.Studies.{Model, Limits}
 use Rattle.plans.specs.Questions.{count, is_charge, is_open}
 use Rattle.plans.specs.Postings.{posting_of, posting, times}
 use Rattle.planning.specs.declared.table.Survey.{Survey}
-use Rattle.planning.specs.Surveys.{Keeps, resource_row, pair_posting}
+use Rattle.planning.specs.Surveys.{Keeps, pair_posting}
 use Rattle.theory.specs.Entries.{Entry}
 use Rattle.theory.specs.Amounts.{Amount, value, Known, precedes}
 use Rattle.theory.specs.Searches.{Plans, Best as Found-plan, Found, Same}
@@ -26,6 +26,7 @@ use Rattle.solving.specs.Marked.{is_held, is_shut, mark_of, held_pairs, shut_pai
 use Rattle.solving.specs.Finds.{best_of, Searches}
 use Rattle.solving.specs.Least.{first_mark, first_line, FirstMarks, FindsLeast}
 use Rattle.solutions.proofs.Found.{found_none, found_plan}
+use Rattle.solving.proofs.Tabled.{at_echelon}
 use Rattle.solving.proofs.Bounds.{best_at}
 
 -- ---- the marks that a search begins with
@@ -37,13 +38,6 @@ shut_if_closed : (n : ℕ) (a : Answer) → is_shut (first_mark (posting_of n a)
 shut_if_closed n (Charged c) = refl
 shut_if_closed n Barred = refl
 shut_if_closed n (Faulty f) = refl
-
-line_at : (s : Model) (b : Book) (r place : ℕ) → place < 4 → get_or (first_line (resource_row s b r)) place Held ≡ first_mark (pair_posting s b r (suc place))
-line_at s b r zero h = refl
-line_at s b r (suc zero) h = refl
-line_at s b r (suc (suc zero)) h = refl
-line_at s b r (suc (suc (suc zero))) h = refl
-line_at s b r (suc (suc (suc (suc n)))) h = absurd (omega arith)
 
 module _ (s : Model) (b : Book) (t : Survey) (limits : Limits s) (keeps : Keeps s b t) (marks : List (List Mark)) (begins : FirstMarks t s.resources marks) where
   -- the mark of a pair, by the book's answer
@@ -57,7 +51,7 @@ module _ (s : Model) (b : Book) (t : Survey) (limits : Limits s) (keeps : Keeps 
       let in_row = (div-lt_iff_lt-mul p).1 h in
       let l = mod-lt j p in
       ap (λ line. get_or line place Held) (begins r in_row ∙ ap first_line (keeps.resources r in_row))
-      ∙ line_at s b r place (omega arith)
+      ∙ at_echelon (λ e. first_mark (pair_posting s b r e)) place Held (omega arith)
       ∙ ap first_mark (cond-true (leb (suc place) last) (posting s b (OfResource r (suc place))) None (le-leb (suc place) last l))
 
   none_held : (j : ℕ) → j < s.resources * s.echelons → held_pairs marks s.echelons j ≡ false

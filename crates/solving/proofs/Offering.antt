@@ -16,7 +16,7 @@ use Rattle.plans.specs.Postings.{component, posting}
 use Rattle.plans.proofs.Fitting.{WithinIf}
 use Rattle.planning.specs.declared.table.Choices.{Choices}
 use Rattle.planning.specs.declared.table.Survey.{Survey}
-use Rattle.planning.specs.Surveys.{no_choices, no_options, choices_of, option_row, Keeps}
+use Rattle.planning.specs.Surveys.{no_choices, no_options, choices_of, Keeps}
 use Rattle.theory.specs.Entries.{Entry}
 use Rattle.theory.specs.Options.{Options}
 use Rattle.theory.specs.Marks.{blocked, unless, allowed}
@@ -27,6 +27,7 @@ use Rattle.solving.specs.declared.mark.Mark.TheVariants.{Held}
 use Rattle.solving.specs.Marked.{is_shut, shut_pairs}
 use Rattle.solving.specs.Allowed.{shut_mask, shut_masks, is_barred}
 use Rattle.solving.specs.Sums.{plain, Offers}
+use Rattle.solving.proofs.Tabled.{at_echelon}
 use Rattle.solving.proofs.Masks.{needs_shut, barred_is}
 use Rattle.solving.specs.Steps.{allowed_at, OffersAll}
 
@@ -115,20 +116,6 @@ module _ (s : Model) (limits : Limits s) (b : Book) (kept : KeepsLimits b) (t : 
   abbrev pub open_options : ℕ → Options
   open_options i = allowed (shut_pairs marks s.echelons) (s.resources * s.echelons) (needs_of s b limits kept i) (options_of s b limits kept i)
 
-  row_at : (i e : ℕ) → e < 4 → get_or (option_row s b i) e no_choices ≡ choices_of s b i (suc e)
-  row_at i zero h = refl
-  row_at i (suc zero) h = refl
-  row_at i (suc (suc zero)) h = refl
-  row_at i (suc (suc (suc zero))) h = refl
-  row_at i (suc (suc (suc (suc e)))) h = absurd (omega arith)
-
-  mask_at : (e : ℕ) → e < 4 → get_or (shut_masks marks s.resources) e 0 ≡ shut_mask marks e s.resources
-  mask_at zero h = refl
-  mask_at (suc zero) h = refl
-  mask_at (suc (suc zero)) h = refl
-  mask_at (suc (suc (suc zero))) h = refl
-  mask_at (suc (suc (suc (suc e)))) h = absurd (omega arith)
-
   -- what is posted at the echelons up to one
   entry_is : (last i e : ℕ) (op : RepairOption) → plain (entry_at s b limits kept last i op (suc e)) ≡ cond (leb (suc e) last) (posting s b (OfOption i (suc e) op)) None
   entry_is last i e op =
@@ -143,7 +130,7 @@ module _ (s : Model) (limits : Limits s) (b : Book) (kept : KeepsLimits b) (t : 
     row_is : row ≡ choices_of s b i (suc e)
     row_is =
         let few = limits.few_echelons in
-        ap (λ (r : List Choices). get_or r e no_choices) (keeps.options i entered) ∙ row_at i e (omega arith)
+        ap (λ (r : List Choices). get_or r e no_choices) (keeps.options i entered) ∙ at_echelon (choices_of s b i) e no_choices (omega arith)
 
     asked : leb (suc e) s.echelons ≡ true
     asked = le-leb (suc e) s.echelons here
@@ -180,7 +167,7 @@ module _ (s : Model) (limits : Limits s) (b : Book) (kept : KeepsLimits b) (t : 
     barred op =
         let few = limits.few_echelons in
         blocked_is marks (component s i).needs op s.echelons e here s.resources limits.few_resources
-        ∙ ap (is_barred (component s i).needs op) (sym (mask_at e (omega arith)))
+        ∙ ap (is_barred (component s i).needs op) (sym (at_echelon (λ n. shut_mask marks (pred n) s.resources) e 0 (omega arith)))
 
     offered : Offers (allowed_at s t (shut_masks marks s.resources) i e) (open_options (suc i)) (suc e)
     offered = (

@@ -4,10 +4,8 @@ use Rattle.std.proofs.lemmas.List.{get_or-set_same, get_or-set_other, take_more}
 use Rattle.std.proofs.lemmas.Bool.{cases_eq, ne_eqb, le-leb, and_from, cond-true, cond-false}
 use Rattle.std.proofs.lemmas.Bool.Decides.{nat_tests}
 use Rattle.costs.specs.Kinds.{Adding}
-use Rattle.model.specs.declared.component.Component.{Component}
 use Rattle.model.specs.Studies.{Model, Limits}
 use Rattle.plans.specs.Questions.{count}
-use Rattle.plans.specs.Postings.{component}
 use Rattle.plans.specs.Starts.{parent, start_under}
 use Rattle.theory.specs.Options.{Options, repaired_at}
 use Rattle.theory.specs.Breakdowns.{Breakdown, start, plan}

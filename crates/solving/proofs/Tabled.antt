@@ -1,5 +1,5 @@
 -- The table of a study is one that the solver's argument speaks of.
-use Rattle.std.proofs.Common.{◌≡◌, ℕ, ◌<◌, ◌≤◌, true, List, length, get_or, Some, None, Option, sym, ap, subst, inl, inr, arith}
+use Rattle.std.proofs.Common.{◌≡◌, ℕ, zero, suc, ◌<◌, ◌≤◌, true, List, length, get_or, Some, None, Option, sym, refl, ap, subst, inl, inr, arith}
 use Rattle.std.proofs.lemmas.List.{get_or_past}
 use Rattle.std.proofs.lemmas.Bool.{cases_lt, ltb-true}
 use Rattle.model.specs.Components.{no_component, is_entered}
@@ -8,12 +8,21 @@ use Rattle.model.specs.Studies.{Model, Limits}
 use Rattle.plans.specs.Questions.{count}
 use Rattle.plans.specs.Postings.{component}
 use Rattle.plans.specs.Starts.{parent}
+use Rattle.planning.specs.Surveys.{by_echelon}
 use Rattle.planning.proofs.Needing.{component_read}
 use Rattle.theory.specs.Options.{Options}
 use Rattle.theory.specs.Tables.{Sound}
 use Rattle.theory.proofs.Places.{echelons_rise}
 use Rattle.solutions.specs.Problems.{parent_number}
 use Rattle.solving.specs.Steps.{tabled}
+
+-- what a list by echelon has at a place, which is one below the echelon
+pub at_echelon : {A : Type 0} (f : ℕ → A) (place : ℕ) (none : A) → place < 4 → get_or (by_echelon f) place none ≡ f (suc place)
+at_echelon f zero none h = refl
+at_echelon f (suc zero) none h = refl
+at_echelon f (suc (suc zero)) none h = refl
+at_echelon f (suc (suc (suc zero))) none h = refl
+at_echelon f (suc (suc (suc (suc n)))) none h = absurd (omega arith)
 
 -- what the code reads past the last component, which it never does
 abbrev pub unread : Component

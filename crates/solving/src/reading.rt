@@ -22,6 +22,7 @@ pub(crate) fn read_off(study: &Study, notes: &[[u8; 4]], plan: &mut [u8])
     requires { (count (model study.now) ≤ length notes.now) × (count (model study.now) ≤ length plan.old) }
     ensures { ReadsOff (model study.now) notes.now (count (model study.now)) plan.new }
 {
+    // Stays: the plan is read at the parent and written at the number within one turn, so the number is needed anyway.
     for (number, component) in study.components().iter().enumerate() {
         let start = start_under(plan, component.parent);
         plan[number] = noted_at(notes[number], start);

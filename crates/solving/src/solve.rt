@@ -15,6 +15,7 @@ use planning::survey::survey;
 // The cost of the least plan, the first in reading order, whose bytes are written into the first places of `plan`, one for
 // each component; or the first question that fails, and then nothing is written into `plan`. The list of working costs
 // needs one for each component and echelon, and may hold anything before and after.
+// Stays: the costs are a bare list of the caller's, since a solve needs no memory of its own.
 pub fn solve<B: ChargeBook, K: CostKind>(
     study: &Study,
     book: &B,

@@ -37,6 +37,7 @@ pub(crate) fn take_component<K: CostKind>(
     let echelons = usize::from(problem.study.echelons());
     let mut bytes = [0; 4];
     let mut onward = no_way();
+    // Stays: one number for the row, the masks, the cell and the byte noted, four lists of which two are written.
     for echelon in (0..echelons).rev() {
         let choices = allowed(row[echelon], component.needs, shut[echelon]);
         let under = sum_at(tags, working, number * echelons + echelon);

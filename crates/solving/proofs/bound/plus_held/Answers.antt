@@ -1,4 +1,4 @@
-use Rattle.std.proofs.Common.{◌≡◌, ◌<◌, [], get_or, length, ap, ◌∙◌, subst, ap₂, arith, length-take}
+use Rattle.std.proofs.Common.{◌≡◌, ◌<◌, [], get_or, ap, ◌∙◌, subst, ap₂, arith, length-take}
 use Rattle.std.proofs.lemmas.List.{get_or-take}
 use Rattle.model.specs.Studies.{model}
 use Rattle.model.proofs.Limited.{limited}

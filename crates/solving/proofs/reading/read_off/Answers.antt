@@ -1,4 +1,4 @@
-use Rattle.std.proofs.Common.{◌≡◌, ◌<◌, length, ap, arith}
+use Rattle.std.proofs.Common.{◌<◌, length, ap, arith}
 use Rattle.model.specs.Studies.{model}
 use Rattle.model.proofs.Limited.{limited}
 use Rattle.plans.specs.Questions.{count}

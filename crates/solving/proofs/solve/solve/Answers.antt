@@ -1,4 +1,4 @@
-use Rattle.std.proofs.Common.{◌≡◌, ◌-◌, ◌++◌, length, take, drop, Some, None, Err, sym, ap, rules, ◌∙◌, arith}
+use Rattle.std.proofs.Common.{◌≡◌, ◌++◌, length, take, drop, Some, None, Err, sym, ap, rules, ◌∙◌, arith}
 use Rattle.model.specs.declared.refusal.Refusal.TheVariants.{NoPlan}
 use Rattle.model.specs.Studies.{model}
 use Rattle.model.proofs.Limited.{limited}

@@ -1,7 +1,6 @@
-use Rattle.std.proofs.Common.{◌≡◌, [], length, set, sym, refl, ap, ◌∙◌, subst, append-nil, arith}
+use Rattle.std.proofs.Common.{◌≡◌, [], length, set, sym, ap, ◌∙◌, subst, append-nil, arith}
 use Rattle.model.specs.Studies.{model}
 use Rattle.model.proofs.Limited.{limited}
-use Rattle.plans.specs.Questions.{count}
 use Rattle.theory.specs.Tables.{sums_at}
 use Rattle.solving.specs.Sums.{held}
 use Rattle.solving.specs.Working.{view}
@@ -14,7 +13,7 @@ loop-number-init g c =
     let s = model c.args.problem.now.study.now in
     let counts : c.into_iter-number-iterator.result.iter.count ≡ 0 = cc in
     let rest : c.into_iter-number-iterator.result.iter.iter.rest.now ≡ s.components = cc in (
-          record { from_zero = counts; taken = []; all = append-nil _ ∙ rest },
+      record { from_zero = counts; taken = []; all = append-nil _ ∙ rest },
       λ o offers blank.
           none_taken g.K.CostKind.adding g.K.CostKind.lower s (limited c.args.problem.now.study.now) o _ c.args.notes.now (view c.args.tags.now c.args.working.now) (ap length rest) blank,
     )

@@ -1,4 +1,4 @@
-use Rattle.std.proofs.Common.{◌≡◌, ℕ, length}
+use Rattle.std.proofs.Common.{ℕ, length}
 use Rattle.model.specs.Studies.{model}
 use Rattle.plans.specs.Questions.{count}
 use Rattle.theory.specs.Amounts.{nothing}
