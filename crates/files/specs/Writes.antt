@@ -1,6 +1,7 @@
 -- The file that write makes of a study: one N, then a C for each component in the order of their numbers.
-use Rattle.std.specs.Prelude.{ℕ, zero, suc, ◌+◌, ◌*◌, ◌/◌, ◌%◌, ◌^◌, cond, List, [], ◌∷◌, ◌++◌, length, drop, replicate, Some, None, Ok, Err, Option, Result, nat_le}
+use Rattle.std.specs.Prelude.{ℕ, zero, suc, ◌+◌, ◌*◌, ◌/◌, ◌%◌, ◌^◌, cond, List, [], ◌∷◌, ◌++◌, length, drop, replicate, Ok, Err, Option, Result, nat_le}
 use Rattle.std.specs.List.{flat_map}
+use Rattle.std.specs.Option.{unwrap_or}
 use Rattle.model.specs.declared.component.Component.{Component}
 use Rattle.model.specs.declared.component.Needs.{Needs}
 use Rattle.model.specs.declared.refusal.Refusal.{Refusal}
@@ -23,8 +24,7 @@ no_needs = record { discard = 0; repair = 0; moving = 0 }
 
 -- the number that stands for a parent: 255 for none
 abbrev pub parent_number : Option ℕ → ℕ
-parent_number None = 255
-parent_number (Some p) = p
+parent_number o = unwrap_or o 255
 
 -- the N of a study
 abbrev pub opening_record : Model → List ℕ

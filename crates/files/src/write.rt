@@ -1,15 +1,12 @@
 // Writing a study as a file of N and C records into a place that the caller has.
 ghost use Rattle.std.specs.Prelude.{◌≡◌, length};
 ghost use Rattle.model.specs.Studies.{model};
-ghost use Rattle.files.specs.Writes.{encoded, parent_number, on_write};
+ghost use Rattle.files.specs.Writes.{encoded, on_write};
 
 use crate::record::RECORD_LENGTH;
-use model::component::Needs;
+use model::component::{NO_PARENT, Needs};
 use model::refusal::Refusal;
 use model::study::Study;
-
-// The number that stands for no parent.
-const NO_PARENT: u8 = 255;
 
 // An N names no needs.
 const NO_NEEDS: Needs = Needs {
@@ -18,34 +15,21 @@ const NO_NEEDS: Needs = Needs {
     moving: 0,
 };
 
-// The number that stands for a parent.
-fn parent_number(parent: Option<u8>) -> u8
-    ensures { result ≡ parent_number parent }
-{
-    match parent {
-        None => NO_PARENT,
-        Some(number) => number,
-    }
-}
-
 // Writes an N or a C into its 24 bytes: the kind letter, bytes 1 and 2, the needs and the rate; all else is 0.
 fn encode(place: &mut [u8], kind: u8, first: u8, second: u8, needs: Needs, rate: u32)
     requires { length place.old ≡ 24 }
     ensures { place.new ≡ encoded kind first second needs rate }
 {
-    let mut bytes = [0; RECORD_LENGTH];
-    bytes[0] = kind;
-    bytes[1] = first;
-    bytes[2] = second;
-    bytes[3] = needs.discard;
-    bytes[4] = needs.repair;
-    bytes[5] = needs.moving;
+    let Needs {
+        discard,
+        repair,
+        moving,
+    } = needs;
     let [a, b, c, d] = rate.to_be_bytes();
-    bytes[8] = a;
-    bytes[9] = b;
-    bytes[10] = c;
-    bytes[11] = d;
-    place.copy_from_slice(&bytes);
+    place.copy_from_slice(&[
+        kind, first, second, discard, repair, moving, 0, 0, a, b, c, d, 0, 0, 0, 0, 0, 0, 0, 0, 0,
+        0, 0, 0,
+    ]);
 }
 
 // Writes the study's N and C records, one after another, into the front of the place. Answers how many bytes they are. What
@@ -66,14 +50,13 @@ pub fn write(study: &Study, place: &mut [u8]) -> Result<usize, Refusal>
         NO_NEEDS,
         0,
     );
-    for i in 0..components.len() {
+    for (i, component) in components.iter().enumerate() {
         let at = i + 1;
-        let component = components[i];
         encode(
             &mut place[RECORD_LENGTH * at..RECORD_LENGTH * at + RECORD_LENGTH],
             b'C',
             i as u8,
-            parent_number(component.parent),
+            component.parent.unwrap_or(NO_PARENT),
             component.needs,
             component.rate,
         );
