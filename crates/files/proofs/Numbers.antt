@@ -1,7 +1,9 @@
 -- Numbers in big-endian bytes: what was read, written again, gives the bytes, and what was written, read again, the number.
-use Rattle.std.proofs.Common.{◌≡◌, ℕ, zero, suc, ◌+◌, ◌*◌, ◌/◌, ◌%◌, ◌^◌, ◌<◌, List, [], ◌∷◌, ◌++◌, map, sym, refl, ap, ◌∙◌, ap₂, add-one, arith}
+use Rattle.std.proofs.Common.{◌≡◌, ℕ, zero, suc, ◌+◌, ◌*◌, ◌/◌, ◌%◌, ◌^◌, ◌<◌, List, [], ◌∷◌, ◌++◌, map, get_or, take, drop, w64, sym, refl, ap, ◌∙◌, ap₂, add-one, zero-add, arith}
 use native.Mathlib.Nat.{div-div-eq-div-mul, pow-succ'}
 use Rattle.std.specs.List.{range_with_len}
+use Rattle.std.specs.Int.{from_be_bytes}
+use Rattle.std.proofs.lemmas.List.{get_or-take, get_or-drop}
 use Rattle.std.proofs.lemmas.List.FromFn.{map-range_with_len_more}
 use Rattle.files.specs.Records.{byte, number_at}
 use Rattle.files.specs.Writes.{bytes_of}
@@ -37,3 +39,9 @@ number_again n h = omega arith
 pub number_small : (r : List ℕ) → ((k : ℕ) → byte r k < 256) → (from : ℕ) → number_at r from 8 < 2 ^ 64
 number_small r small from =
     omega (arith, small from, small (from + 0), small (from + 1), small (from + 2), small (from + 3), small (from + 4), small (from + 5), small (from + 6), small (from + 7))
+
+-- eight bytes of a list, as the library reads them
+pub eight_bytes : (b r : List ℕ) (from : ℕ) → b ≡ take 8 (drop from r) → from_be_bytes w64 b ≡ number_at r from 8
+eight_bytes b r from e =
+    let read : from_be_bytes w64 b ≡ number_at b 0 8 = omega arith in
+    read ∙ number_same b r 0 from 8 (λ k l. rw zero-add (ap (λ x. get_or x k 0) e ∙ get_or-take 8 (drop from r) k 0 l ∙ get_or-drop from r k 0))

@@ -1,6 +1,8 @@
 -- The list of a file's whole records, read by its index.
-use Rattle.std.proofs.Common.{◌≡◌, ℕ, ◌+◌, ◌-◌, ◌*◌, ◌/◌, ◌<◌, ◌≤◌, List, [], ◌∷◌, ◌++◌, length, get_or, take, drop, ap, ◌∙◌, arith}
-use Rattle.std.proofs.lemmas.List.{length-take, length-drop, take_more, take_all}
+use Rattle.std.proofs.Common.{◌≡◌, ℕ, zero, suc, ◌+◌, ◌-◌, ◌*◌, ◌/◌, ◌<◌, ◌≤◌, List, [], ◌∷◌, ◌++◌, map, length, get_or, take, drop, refl, ap, ◌∙◌, arith}
+use Rattle.std.specs.List.{range_with_len}
+use Rattle.std.specs.Simd.{first_chunks}
+use Rattle.std.proofs.lemmas.List.{length-take, length-drop, drop-drop, take_more, take_all}
 use Rattle.std.proofs.lemmas.List.FromFn.{length-map-range_with_len, get_or-map-range_with_len}
 use Rattle.files.specs.Records.{records, record_at}
 
@@ -34,3 +36,13 @@ records_more file k h =
 
 pub records_all : (file : List ℕ) (k : ℕ) → length file / 24 ≤ k → take k (records file) ≡ records file
 records_all file k h = let n = records_length file in take_all k (records file) (omega arith)
+
+-- the whole records, cut off the front one after another
+chunks_from : (file : List ℕ) (i n : ℕ) → first_chunks 24 n (drop (24 * i) file) ≡ map (record_at file) (range_with_len i n)
+chunks_from file i zero = refl
+chunks_from file i (suc n) =
+    let on : 24 * i + 24 ≡ 24 * (i + 1) = omega arith in
+    ap (λ rs. record_at file i ∷ rs) (ap (first_chunks 24 n) (drop-drop 24 (24 * i) file ∙ ap (λ k. drop k file) on) ∙ chunks_from file (i + 1) n)
+
+pub chunks_records : (file : List ℕ) → first_chunks 24 (length file / 24) file ≡ records file
+chunks_records file = chunks_from file 0 (length file / 24)

@@ -1,5 +1,6 @@
 -- The table book: the answers that stand in the T and F records of a file.
 use Rattle.std.specs.Prelude.{ℕ, Bool, cond, ◌&&◌, List, [], ◌∷◌, pos, neg_ℤ, Some, None, Option, ◌==◌, int_le, nat_le}
+use Rattle.std.specs.List.{filter_map}
 use Rattle.model.specs.declared.question.Question.{Question}
 use Rattle.model.specs.declared.question.Question.TheVariants.{OfOption, OfResource}
 use Rattle.model.specs.declared.answer.Answer.{Answer}
@@ -22,8 +23,7 @@ charge_for q r = cond (names r q) (Some (charge_of r)) None
 
 -- the charges of the records that name the question
 abbrev pub charges : Question → List (List ℕ) → List Charge
-charges q [] = []
-charges q (r ∷ rs) = cond (names r q) (charge_of r ∷ charges q rs) (charges q rs)
+charges q rs = filter_map (charge_for q) rs
 
 -- the charge keeps the limits: for an option at most 10^9 cents above or below zero and 10^6 minutes, for a resource 0 to
 -- 10^12 cents and at most 10^9 minutes

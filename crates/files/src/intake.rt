@@ -1,25 +1,33 @@
 // The intake: it makes a study of a file, record by record, and refuses the file at the first question that fails.
-ghost use Rattle.std.specs.Prelude.{◌≡◌, ◌+◌, ◌≤◌, length, is_some};
+ghost use Rattle.std.specs.Prelude.{◌≡◌, ◌+◌, ◌≤◌, is_some};
 ghost use Rattle.std.specs.Option.{unwrap_or};
 ghost use Rattle.model.specs.Studies.{Model, model};
 ghost use Rattle.files.specs.Records.{blank, is_filled};
-ghost use Rattle.files.specs.declared.intake.IntakeError.TheVariants.{OutOfMemory as out-of-memory};
+ghost use Rattle.files.specs.declared.intake.IntakeError.TheVariants.{Refused, OutOfMemory as out-of-memory};
 ghost use Rattle.files.specs.Intakes.{state, next_stage, accepted, on_study, on_record, leaving, TakenIn};
 
-use crate::record::{RECORD_LENGTH, option_of, rate};
+use crate::record::{Record, option_of, rate};
 use model::component::Needs;
 use model::refusal::Refusal;
 use model::study::Study;
 use std::alloc::{AllocError, Global};
 
-// The length of the longest file.
-const MOST_BYTES: usize = 65_520;
+// How many records the longest file has.
+const MOST_RECORDS: usize = 2_730;
 
 // Why a file makes no study: it is refused, or memory is wanting.
 #[derive(Clone, Copy, PartialEq, Eq, Debug)]
 pub enum IntakeError {
     Refused(Refusal),
     OutOfMemory,
+}
+
+impl From<Refusal> for IntakeError {
+    ghost from_gives = { λ why r. r ≡ Refused why };
+
+    fn from(why: Refusal) -> IntakeError {
+        IntakeError::Refused(why)
+    }
 }
 
 impl From<AllocError> for IntakeError {
@@ -46,21 +54,15 @@ struct Reading {
 }
 
 // Whether the `count` bytes from byte `from` on are 0.
-fn is_blank(record: &[u8], from: usize, count: usize) -> bool
-    requires { (length «record».now ≡ 24) × (from + count ≤ 24) }
+fn is_blank(record: &Record, from: usize, count: usize) -> bool
+    requires { from + count ≤ 24 }
     ensures { result ≡ blank «record».now from count }
 {
-    for k in 0..count {
-        if record[from + k] != 0 {
-            return false;
-        }
-    }
-    true
+    record[from..from + count].iter().all(|byte| *byte == 0)
 }
 
 // Whether the bytes that a record of its kind does not use are 0, and the letter of a T is that of an option.
-fn is_filled(record: &[u8]) -> bool
-    requires { length «record».now ≡ 24 }
+fn is_filled(record: &Record) -> bool
     ensures { result ≡ is_filled «record».now }
 {
     match record[0] {
@@ -75,21 +77,17 @@ fn is_filled(record: &[u8]) -> bool
 fn on_answer<A: Drop>(at: u16, answer: Result<A, Refusal>) -> Result<(), Refusal>
     ensures { (s : Model) → leaving result s ≡ accepted at (answer, s) }
 {
-    match answer {
-        Ok(_) => Ok(()),
-        Err(why) => Err(Refusal::RecordRefused {
-            record: at,
-            number: why.number(),
-        }),
-    }
+    answer.map(|_| ()).map_err(|why| Refusal::RecordRefused {
+        record: at,
+        number: why.number(),
+    })
 }
 
 // Has the study do what record number `at` says: N opens it, C enters a component, T and F leave it.
-fn put(study: &mut Study, at: u16, record: &[u8]) -> Result<(), Refusal>
-    requires { length «record».now ≡ 24 }
+fn put(study: &mut Study, at: u16, record: &Record) -> Result<(), Refusal>
     ensures { leaving result (model study.new) ≡ on_study (model study.old) at «record».now }
 {
-    let [kind, number, echelon, letter, rest @ ..] = record else {
+    let [kind, number, echelon, letter, rest @ ..] = record.as_slice() else {
         return Ok(());
     };
     match *kind {
@@ -131,8 +129,7 @@ impl Reading {
     }
 
     // Takes in record number `at`.
-    fn take_in(&mut self, at: u16, record: &[u8]) -> Result<(), Refusal>
-        requires { length «record».now ≡ 24 }
+    fn take_in(&mut self, at: u16, record: &Record) -> Result<(), Refusal>
         ensures { leaving result (state self.new) ≡ on_record (state self.old) at «record».now }
     {
         if !self.admits(record[0]) {
@@ -149,23 +146,17 @@ impl Reading {
 pub fn intake(study: &mut Study, heap: Global, file: &[u8]) -> Result<(), IntakeError>
     ensures { TakenIn file.now (model study.old) result (model study.new) }
 {
-    if file.len() % RECORD_LENGTH != 0 || file.len() < RECORD_LENGTH || file.len() > MOST_BYTES {
+    let (records, tail) = file.as_chunks();
+    if !tail.is_empty() || !(1..=MOST_RECORDS).contains(&records.len()) {
         return Err(IntakeError::Refused(Refusal::FileLength));
     }
     let mut reading = Reading {
         stage: Stage::Opening,
         study: Study::blank(heap)?,
     };
-    for k in 0..file.len() / RECORD_LENGTH {
-        let record = &file[RECORD_LENGTH * k..RECORD_LENGTH * k + RECORD_LENGTH];
-        if let Err(why) = reading.take_in(k as u16, record) {
-            return Err(IntakeError::Refused(why));
-        }
+    for (at, record) in records.iter().enumerate() {
+        reading.take_in(at as u16, record)?;
     }
-    let Reading {
-        stage: _,
-        study: made,
-    } = reading;
-    *study = made;
+    *study = reading.study;
     Ok(())
 }
