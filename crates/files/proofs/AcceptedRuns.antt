@@ -1,7 +1,7 @@
 -- Whole files: what is accepted, stage by stage, and that it is accepted.
-use Rattle.std.proofs.Common.{◌≡◌, ℕ, zero, suc, ◌+◌, ◌%◌, ◌<◌, ◌≤◌, ◌&&◌, eqb, leb, List, [], ◌∷◌, ◌++◌, length, get_or, Ok, sym, refl, ap, ◌∙◌, subst, inl, inr, arith}
+use Rattle.std.proofs.Common.{◌≡◌, ℕ, zero, suc, ◌+◌, ◌%◌, ◌<◌, ◌≤◌, List, [], ◌∷◌, ◌++◌, length, get_or, Ok, sym, refl, ap, ◌∙◌, subst, inl, inr, arith}
 use Rattle.std.specs.List.{AllByRecursion}
-use Rattle.std.proofs.lemmas.Bool.{and_parts, eqb-true, leb-true}
+use Rattle.std.proofs.lemmas.Bool.Decides.{nat_tests}
 use Rattle.model.specs.declared.refusal.Refusal.TheVariants as no
 use Rattle.model.specs.Studies.{Model, blank_study, on_open}
 use Rattle.files.specs.declared.intake.Stage.TheVariants.{Components, Charges}
@@ -10,7 +10,7 @@ use Rattle.files.specs.Intakes.{State, on_record, and_then, run, start, is_lengt
 use Rattle.files.specs.AcceptedFiles.{IsN, IsC, Entered, none, next, Accepted, AcceptedExactly}
 use Rattle.files.proofs.RecordLists.{records_length}
 use Rattle.files.proofs.Runs.{right_length, taken_run}
-use Rattle.files.proofs.Outcomes.{same_ok, ok_then, ok_test, opened_empty, entered_one}
+use Rattle.files.proofs.Outcomes.{ok_then, ok_test, opened_empty, entered_one}
 use Rattle.files.proofs.Steps.{at_stage, IsCharge, opening_step, components_step, charges_step, opening_taken, component_taken, charge_taken}
 
 -- numbered k, k + 1, k + 2, ..
@@ -34,7 +34,7 @@ module _ (at : ℕ) (t : State) (r : List ℕ) (rs : List (List ℕ)) where
 
 -- the stage of charges: only T and F, and the study stays
 charges_run : (rs : List (List ℕ)) (at : ℕ) (s m : Model) → run at (at_stage Charges s) rs ≡ Ok m → AllByRecursion IsCharge rs × (s ≡ m)
-charges_run [] at s m h = (tt, same_ok h)
+charges_run [] at s m h = (tt, cc)
 charges_run (r ∷ rs) at s m h =
     let on = going_on at (at_stage Charges s) r rs m h in
     let here = charges_step s at r on.0 on.1 in
@@ -63,7 +63,7 @@ components_run [] at s m h = record {
   then_c = tt;
   then_t_and_f = tt;
   numbered = λ i l. absurd (omega arith);
-  enters = subst (Entered s []) (same_ok h) (none s);
+  enters = subst (Entered s []) (cc) (none s);
 }
 components_run (r ∷ rs) at s m h =
     let on = going_on at (at_stage Components s) r rs m h in
@@ -161,11 +161,9 @@ ordered file study by-24 long short o =
 accepted : (file : List ℕ) (study : Model) → taken_in file ≡ Ok study → Accepted file study
 accepted file study h =
     let tested = ok_test (is_length (length file)) (run 0 start (records file)) no.FileLength study h in
-    let by-24 = and_parts (eqb (length file % 24) 0) (leb 24 (length file) && leb (length file) 65_520) tested.0 in
-    let sized = and_parts (leb 24 (length file)) (leb (length file) 65_520) by-24.1 in
-    let long = leb-true 24 (length file) sized.0 in
+    let sized : (length file % 24 ≡ 0) × (24 ≤ length file) × (length file ≤ 65_520) = grind (arith, nat_tests) in
     let n = records_length file in
-    ordered file study (eqb-true (length file % 24) 0 by-24.0) long (leb-true (length file) 65_520 sized.1) (opening_run (records file) study (omega arith) tested.1)
+    ordered file study sized.0 sized.1 sized.2 (opening_run (records file) study (omega arith) tested.1)
 
 accepting : (file : List ℕ) (study : Model) → Accepted file study → taken_in file ≡ Ok study
 accepting file study a =

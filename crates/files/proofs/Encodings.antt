@@ -1,8 +1,8 @@
 -- What is read from an N or a C that is written, and that one which is read is written again with the same bytes.
-use Rattle.std.proofs.Common.{◌≡◌, ℕ, zero, suc, ◌+◌, ◌≤◌, true, eqb, List, ◌∷◌, ◌++◌, map, replicate, Some, None, Option, sym, refl, ap, ◌∙◌, inl, inr, arith}
+use Rattle.std.proofs.Common.{◌≡◌, ℕ, zero, suc, ◌+◌, ◌≤◌, true, List, ◌∷◌, ◌++◌, map, replicate, Some, None, Option, sym, refl, ap, ◌∙◌, arith}
 use Rattle.std.specs.List.{range_with_len}
 use Rattle.std.proofs.lemmas.List.FromFn.{fill_by_all}
-use Rattle.std.proofs.lemmas.Bool.{ltb-true, ne_eqb, eqb-true, cond-true, cond-false, cases_Bool}
+use Rattle.std.proofs.lemmas.Bool.Decides.{nat_tests}
 use Rattle.model.specs.declared.component.Component.{Component}
 use Rattle.model.specs.Components.{parent_of, is_entered}
 use Rattle.model.specs.Studies.{Model}
@@ -25,15 +25,11 @@ component_is_c i c = filled_c (component_record i c) refl refl
 -- the number of an entered parent names it: 255 is none
 pub parent_again : (n : ℕ) (o : Option ℕ) → n ≤ 60 → is_entered n o ≡ true → parent_of (parent_number o) ≡ o
 parent_again n None few h = refl
-parent_again n (Some p) few h = cond-false _ None (Some p) (ne_eqb p 255 (λ e. let l = ltb-true p n h in omega arith))
+parent_again n (Some p) few h = grind (arith, nat_tests)
 
 -- the parent that a number names has that number
 pub number_again : (p : ℕ) → parent_number (parent_of p) ≡ p
-number_again p =
-    elim (cases_Bool (eqb p 255)) [
-      | inl top ↦ ap parent_number (cond-true (eqb p 255) None (Some p) top) ∙ sym (eqb-true p 255 top)
-      | inr under ↦ ap parent_number (cond-false (eqb p 255) None (Some p) under)
-    ]
+number_again p = grind (arith, nat_tests)
 
 -- four bytes hold a number below 2 ^ 32
 pub rate_read : (i : ℕ) (c : Component) → c.rate ≤ 1_000_000 → rate_of (component_record i c) ≡ c.rate

@@ -1,4 +1,3 @@
-pub mod Fronts
 pub mod Puts
 pub mod Blanks
 pub mod RecordLists

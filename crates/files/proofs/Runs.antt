@@ -1,7 +1,8 @@
 -- The records that are still to come: one record on, and at the end.
 use Rattle.std.proofs.Common.{◌≡◌, ℕ, ◌+◌, ◌/◌, ◌%◌, ◌<◌, ◌≤◌, true, List, [], length, get_or, drop, Ok, Err, Result, sym, ap, ◌∙◌, arith}
 use Rattle.std.specs.Simd.{first_chunks}
-use Rattle.std.proofs.lemmas.Bool.{and_from, eq-eqb, le-leb, cond-true}
+use Rattle.std.proofs.lemmas.Bool.Decides.{nat_tests}
+use Rattle.std.proofs.lemmas.Bool.{cond-true}
 use Rattle.std.proofs.lemmas.List.{at_drop_more, at_drop_all}
 use Rattle.model.specs.declared.refusal.Refusal.{Refusal}
 use Rattle.model.specs.declared.refusal.Refusal.TheVariants as no
@@ -21,7 +22,7 @@ run_all rs k t h = at_drop_all (run k t) rs k h
 
 -- a file of right length is read record by record
 pub right_length : (n : ℕ) → n % 24 ≡ 0 → 24 ≤ n → n ≤ 65_520 → is_length n ≡ true
-right_length n m l u = and_from _ _ (eq-eqb (n % 24) 0 m) (and_from _ _ (le-leb 24 n l) (le-leb n 65_520 u))
+right_length n m l u = grind (arith, nat_tests)
 
 pub taken_run : (file : List ℕ) → is_length (length file) ≡ true → taken_in file ≡ run 0 start (records file)
 taken_run file h = cond-true (is_length (length file)) (run 0 start (records file)) (Err no.FileLength) h

@@ -1,8 +1,9 @@
 -- The table book and the limits of charges: its test is these limits, and its answers keep them.
-use Rattle.std.specs.Prelude.{◌≡◌, ℕ, ◌≤◌, Bool, true, false, ◌&&◌, T, List, [], ◌∷◌, ℤ, ◌≤ℤ◌, Decides, int_le, nat_le, refl}
-use Rattle.std.proofs.Common.{sym, subst}
-use Rattle.std.specs.Int.Signed.{le_z_yes}
-use Rattle.std.proofs.lemmas.Bool.{and_parts, and_from, leb-true, le-leb, cond_both}
+use Rattle.std.specs.Prelude.{ℕ, ◌≤◌, ◌&&◌, List, [], ◌∷◌, ℤ, ◌≤ℤ◌, Decides, int_le, nat_le}
+use Rattle.std.proofs.lemmas.Bool.{cond_both}
+use Rattle.std.proofs.lemmas.Bool.Decides.{nat_tests}
+use Rattle.std.proofs.lemmas.Int.{ints}
+use Rattle.std.proofs.Common.{arith}
 use Rattle.model.specs.declared.question.Question.{Question}
 use Rattle.model.specs.declared.question.Question.TheVariants.{OfOption, OfResource}
 use Rattle.model.specs.declared.answer.Answer.TheVariants.{Charged}
@@ -17,18 +18,8 @@ use Rattle.files.specs.TableAnswers.{is_within, table_fault, charges, answer_fro
 abbrev pub LimitsExactly : Type 0
 LimitsExactly = (q : Question) (c : Charge) → Decides (is_within q c) (InLimits q (Charged c))
 
-passes : (b : Bool) → T b → b ≡ true
-passes true t = refl
-passes false t = absurd t
-
 bounds : (low high z : ℤ) (m n : ℕ) → Decides (int_le low z && (int_le z high && nat_le m n)) ((low ≤ℤ z) × (z ≤ℤ high) × (m ≤ n))
-bounds low high z m n = (
-  λ h.
-      let p = and_parts (int_le low z) (int_le z high && nat_le m n) h in
-      let r = and_parts (int_le z high) (nat_le m n) p.1 in
-      (le_z_yes (subst T (sym p.0) tt), le_z_yes (subst T (sym r.0) tt), leb-true m n r.1),
-  λ b. and_from _ _ (passes _ b.0.le) (and_from _ _ (passes _ b.1.le) (le-leb m n b.2)),
-)
+bounds low high z m n = (λ h. grind (arith, ints, nat_tests), λ b. grind (arith, ints, nat_tests))
 
 pub limits_exactly : LimitsExactly
 limits_exactly (OfOption i e o) c = bounds _ _ c.cents c.minutes _

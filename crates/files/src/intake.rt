@@ -87,6 +87,7 @@ fn on_answer<A: Drop>(at: u16, answer: Result<A, Refusal>) -> Result<(), Refusal
 fn put(study: &mut Study, at: u16, record: &Record) -> Result<(), Refusal>
     ensures { leaving result (model study.new) ≡ on_study (model study.old) at «record».now }
 {
+    // Stays: tried on the array itself, of which the borrow checker does not cover a rest.
     let [kind, number, echelon, letter, rest @ ..] = record.as_slice() else {
         return Ok(());
     };

@@ -32,10 +32,8 @@ fn reads_back(rt: HostRuntime) -> Result<(), Fail> {
 fn keeps_the_rest(rt: HostRuntime) -> Result<(), Fail> {
     let study = Study::blank(rt.alloc())?;
     let mut short = [7; 23];
-    match write(&study, &mut short) {
-        Ok(_) => assert!(rt; false),
-        Err(why) => assert_eq!(rt; why.number(), 36),
-    }
+    let answer = write(&study, &mut short).map_err(|why| why.number());
+    assert_eq!(rt; answer, Err(36));
     assert_eq!(rt; short[0], 7);
     let mut long = [7; 25];
     assert_eq!(rt; write(&study, &mut long)?, 24);

@@ -25,15 +25,13 @@ fn names(kind: u8, number: u8, echelon: u8, letter: u8, question: Question) -> b
             echelon: place,
             option,
         } => {
-            kind == b'T'
-                && number == component
-                && echelon == place
-                && char::from(letter) == option.letter()
+            let letter = char::from(letter);
+            (kind, number, echelon, letter) == (b'T', component, place, option.letter())
         }
         Question::OfResource {
             resource,
             echelon: place,
-        } => kind == b'F' && number == resource && echelon == place,
+        } => (kind, number, echelon) == (b'F', resource, place),
     }
 }
 
@@ -41,6 +39,7 @@ fn names(kind: u8, number: u8, echelon: u8, letter: u8, question: Question) -> b
 fn charge_for(record: &Record, question: Question) -> Option<Charge>
     ensures { result ≡ charge_for question «record».now }
 {
+    // Stays: tried on the array itself, of which the borrow checker does not cover a rest.
     let [kind, number, echelon, letter, rest @ ..] = record.as_slice() else {
         return None;
     };

@@ -31,13 +31,13 @@ fn joined(heap: Global, records: &[&[u8]]) -> Result<Vec<u8>, AllocError> {
     Ok(file)
 }
 
-// The number of the refusal, or 0 where the file is accepted.
-fn refusal(heap: Global, records: &[&[u8]]) -> Result<u8, AllocError> {
+// The number of the refusal, where the file is refused.
+fn refusal(heap: Global, records: &[&[u8]]) -> Result<Option<u8>, AllocError> {
     let file = joined(heap, records)?;
     let mut study = Study::blank(heap)?;
     match intake(&mut study, heap, file.as_slice()) {
-        Ok(()) => Ok(0),
-        Err(IntakeError::Refused(why)) => Ok(why.number()),
+        Ok(()) => Ok(None),
+        Err(IntakeError::Refused(why)) => Ok(Some(why.number())),
         Err(IntakeError::OutOfMemory) => Err(AllocError),
     }
 }
@@ -62,7 +62,7 @@ fn refuses(rt: HostRuntime) -> Result<(), Fail> {
         (BAD_C, F, 35),
     ];
     for (second, third, number) in cases {
-        assert_eq!(rt; refusal(rt.alloc(), &[N, second, third])?, number);
+        assert_eq!(rt; refusal(rt.alloc(), &[N, second, third])?, Some(number));
     }
     Ok(())
 }
