@@ -1,16 +1,16 @@
 -- Whole files: what is accepted, stage by stage, and that it is accepted.
-use Rattle.std.proofs.Common.{◌≡◌, ℕ, zero, suc, ◌+◌, ◌%◌, ◌<◌, ◌≤◌, List, [], ◌∷◌, ◌++◌, length, get_or, Ok, sym, refl, ap, ◌∙◌, subst, inl, inr, arith}
+use Rattle.std.proofs.Common.{Err, Result, ◌≡◌, ℕ, zero, suc, ◌+◌, ◌%◌, ◌<◌, ◌≤◌, List, [], ◌∷◌, ◌++◌, length, get_or, Ok, sym, refl, ap, ◌∙◌, subst, inl, inr, arith}
 use Rattle.std.specs.List.{AllByRecursion}
 use Rattle.std.proofs.lemmas.Bool.Decides.{nat_tests}
-use Rattle.model.specs.declared.refusal.Refusal.TheVariants as no
+use Rattle.model.specs.declared.refusal.Refusal.{Refusal}
 use Rattle.model.specs.Studies.{Model, blank_study, on_open}
 use Rattle.files.specs.declared.intake.Stage.TheVariants.{Components, Charges}
 use Rattle.files.specs.Records.{byte, records, needs_of, rate_of}
-use Rattle.files.specs.Intakes.{State, on_record, and_then, run, start, is_length, taken_in}
+use Rattle.files.specs.Intakes.{State, on_record, and_then, run, start, taken_in}
 use Rattle.files.specs.AcceptedFiles.{IsN, IsC, Entered, none, next, Accepted, AcceptedExactly}
 use Rattle.files.proofs.RecordLists.{records_length}
 use Rattle.files.proofs.Runs.{right_length, taken_run}
-use Rattle.files.proofs.Outcomes.{ok_then, ok_test, opened_empty, entered_one}
+use Rattle.files.proofs.Calls.{opened_empty, entered_one}
 use Rattle.files.proofs.Steps.{at_stage, IsCharge, opening_step, components_step, charges_step, opening_taken, component_taken, charge_taken}
 
 -- numbered k, k + 1, k + 2, ..
@@ -23,6 +23,11 @@ numbered_more k r rs e more (suc i) l = omega (arith, more i (omega arith))
 
 pub numbered_rest : (k : ℕ) (r : List ℕ) (rs : List (List ℕ)) → NumberedFrom k (r ∷ rs) → NumberedFrom (k + 1) rs
 numbered_rest k r rs all i l = omega (arith, all (suc i) (omega arith))
+
+-- what went on was accepted before
+ok_then : {A B : Type 0} (o : Result A Refusal) (f : A → Result B Refusal) (y : B) → and_then o f ≡ Ok y → (x : A) × (o ≡ Ok x) × (f x ≡ Ok y)
+ok_then (Ok x) f y h = (x, refl, h)
+ok_then (Err why) f y h = cc
 
 -- a record came to t, and the others go on from t
 module _ (at : ℕ) (t : State) (r : List ℕ) (rs : List (List ℕ)) where
@@ -69,9 +74,9 @@ components_run (r ∷ rs) at s m h =
     let on = going_on at (at_stage Components s) r rs m h in
     elim (components_step s at r on.0 on.1) [
       | inl here ↦
-          let u = here.2.0 in
-          let more = components_run rs (at + 1) u m (ap (λ t. run (at + 1) t rs) here.2.3 ∙ on.2) in
-          let one = entered_one s (byte r 2) (needs_of r) (rate_of r) here.2.1 u here.2.2 in
+          let u = on.0.study in
+          let more = components_run rs (at + 1) u m (ap (λ t. run (at + 1) t rs) here.3 ∙ on.2) in
+          let one = entered_one s (byte r 2) (needs_of r) (rate_of r) (length s.components) u here.2 in
           record {
             components = r ∷ more.components;
             charges = more.charges;
@@ -79,7 +84,7 @@ components_run (r ∷ rs) at s m h =
             then_c = (here.0, more.then_c);
             then_t_and_f = more.then_t_and_f;
             numbered = numbered_more (length s.components) r more.components here.1 (subst (λ k. NumberedFrom k more.components) one more.numbered);
-            enters = next s u m here.2.1 r more.components here.2.2 more.enters;
+            enters = next s u m (length s.components) r more.components here.2 more.enters;
           }
       | inr here ↦
           let later = charges_run rs (at + 1) s m (ap (λ t. run (at + 1) t rs) here.1 ∙ on.2) in
@@ -124,11 +129,11 @@ opening_run (r ∷ rs) m l h =
     record {
       opening = r;
       rest = rs;
-      opened = here.1.0;
+      opened = on.0.study;
       in_order = refl;
       first_n = here.0;
-      opens = here.1.1;
-      parted = components_run rs 1 here.1.0 m (ap (λ t. run 1 t rs) here.1.2 ∙ on.2);
+      opens = here.1;
+      parted = components_run rs 1 on.0.study m (ap (λ t. run 1 t rs) here.2 ∙ on.2);
     }
 
 -- the C of a file are numbered from 0, since open leaves no component
@@ -160,10 +165,10 @@ ordered file study by-24 long short o =
 
 accepted : (file : List ℕ) (study : Model) → taken_in file ≡ Ok study → Accepted file study
 accepted file study h =
-    let tested = ok_test (is_length (length file)) (run 0 start (records file)) no.FileLength study h in
     let sized : (length file % 24 ≡ 0) × (24 ≤ length file) × (length file ≤ 65_520) = grind (arith, nat_tests) in
+    let ran : run 0 start (records file) ≡ Ok study = grind (arith, nat_tests) in
     let n = records_length file in
-    ordered file study sized.0 sized.1 sized.2 (opening_run (records file) study (omega arith) tested.1)
+    ordered file study sized.0 sized.1 sized.2 (opening_run (records file) study (omega arith) ran)
 
 accepting : (file : List ℕ) (study : Model) → Accepted file study → taken_in file ≡ Ok study
 accepting file study a =

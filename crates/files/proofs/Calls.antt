@@ -1,6 +1,7 @@
 -- What open and enter leave where they accept, and what they accept.
-use Rattle.std.proofs.Common.{◌≡◌, ℕ, ◌*◌, ◌<◌, ◌≤◌, List, [], ◌∷◌, ◌++◌, length, Ok, arith}
+use Rattle.std.proofs.Common.{◌+◌, ◌≡◌, ℕ, ◌*◌, ◌<◌, ◌≤◌, List, [], ◌∷◌, ◌++◌, length, Ok, arith}
 use Rattle.std.proofs.lemmas.Bool.Decides.{nat_tests}
+use Rattle.std.proofs.lemmas.List.{length_push}
 use Rattle.model.specs.declared.component.Component.{Component}
 use Rattle.model.specs.declared.component.Needs.{Needs}
 use Rattle.model.specs.Components.{parent_of, Row}
@@ -23,3 +24,11 @@ opened_is s e q t h = grind arith
 
 pub entered_is : (s : Model) (p : ℕ) (n : Needs) (f x : ℕ) (t : Model) → on_enter s p n f ≡ (Ok x, t) → study_of s.echelons s.resources (s.components ++ entered s p n f ∷ []) ≡ t
 entered_is s p n f x t h = grind arith
+
+-- open leaves no component
+pub opened_empty : (s : Model) (e q : ℕ) (x : Unit) (t : Model) → on_open s e q ≡ (Ok x, t) → length t.components ≡ 0
+opened_empty s e q x t h = grind arith
+
+-- enter adds one
+pub entered_one : (s : Model) (p : ℕ) (n : Needs) (f x : ℕ) (t : Model) → on_enter s p n f ≡ (Ok x, t) → length t.components ≡ length s.components + 1
+entered_one s p n f x t h = grind (arith, length_push)

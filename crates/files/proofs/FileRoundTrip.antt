@@ -8,9 +8,8 @@ use Rattle.files.specs.AcceptedFiles.{IsC, IsT, IsF, Entered, none, next, Accept
 use Rattle.files.specs.Writes.{encoded, component_record, component_records, written_records, in_a_row}
 use Rattle.files.specs.RoundTrips.{Bytes, IsNOrC, NoCharges, AcceptedFilesWriteBack}
 use Rattle.files.proofs.AcceptedRuns.{NumberedFrom, numbered_rest, accepted_exactly}
-use Rattle.files.proofs.Calls.{study_of, opened_is, entered_is}
+use Rattle.files.proofs.Calls.{study_of, opened_is, entered_is, entered_one}
 use Rattle.files.proofs.Encodings.{number_again, n_again, c_again}
-use Rattle.files.proofs.Outcomes.{entered_one}
 use Rattle.files.proofs.RecordRows.{Readable, row_of_records, records_readable}
 
 -- the C of the component that a C enters

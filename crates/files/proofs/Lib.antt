@@ -3,7 +3,6 @@ pub mod Blanks
 pub mod RecordLists
 pub mod ChargeLists
 pub mod Runs
-pub mod Outcomes
 pub mod RecordKinds
 pub mod Steps
 pub mod AcceptedRuns

@@ -1,44 +1,13 @@
--- The kinds of record, and when a record of each kind is rightly filled in.
-use Rattle.std.proofs.Common.{◌≡◌, ℕ, true, List, is_some, None, refl, ap, ◌∙◌, inl, inr, arith}
+-- When a record of each kind is rightly filled in.
+use Rattle.std.proofs.Common.{◌≡◌, ℕ, true, List, is_some, refl, ap, ◌∙◌, inl, inr, arith}
 use Rattle.std.proofs.lemmas.Bool.{cases_eq, and_parts, and_from}
 use Rattle.std.proofs.lemmas.Bool.Decides.{nat_tests}
 use Rattle.model.specs.declared.question.RepairOption.{RepairOption}
 use Rattle.model.specs.declared.question.RepairOption.TheVariants.{Discard, Repair, Move}
 use Rattle.model.specs.Letters.{letter}
-use Rattle.files.specs.declared.intake.Stage.{Stage}
-use Rattle.files.specs.declared.intake.Stage.TheVariants.{Opening, Components, Charges}
 use Rattle.files.specs.Records.{byte, kind, option_of, letter_n, letter_c, letter_t, letter_f, filled_as}
-use Rattle.files.specs.Intakes.{next_stage}
 use Rattle.files.specs.AcceptedFiles.{IsN, IsC, IsT, IsF}
 use Rattle.files.proofs.Blanks.{blank_zeros, zeros_blank}
-
--- a kind letter is one of the four, or may come at no stage
-pub data KindOf (k : ℕ) : Type 0 where
-  an_n : k ≡ letter_n → KindOf k
-  a_c : k ≡ letter_c → KindOf k
-  a_t : k ≡ letter_t → KindOf k
-  an_f : k ≡ letter_f → KindOf k
-  another : ((g : Stage) → next_stage g k ≡ None) → KindOf k
-
-no_stage : (k : ℕ) → (k ≡ letter_n → ⊥) → (k ≡ letter_c → ⊥) → (k ≡ letter_t → ⊥) → (k ≡ letter_f → ⊥) → (g : Stage) → next_stage g k ≡ None
-no_stage k n c t f Opening = grind (arith, nat_tests)
-no_stage k n c t f Components = grind (arith, nat_tests)
-no_stage k n c t f Charges = grind (arith, nat_tests)
-
-pub kind_of : (k : ℕ) → KindOf k
-kind_of k =
-    elim (cases_eq k letter_n) [
-      | inl e ↦ an_n e
-      | inr n ↦
-          elim (cases_eq k letter_c) [
-            | inl e ↦ a_c e
-            | inr c ↦
-                elim (cases_eq k letter_t) [
-                  | inl e ↦ a_t e
-                  | inr t ↦ elim (cases_eq k letter_f) [ inl e ↦ an_f e | inr f ↦ another (no_stage k n c t f) ]
-                ]
-          ]
-    ]
 
 -- the letter of a T
 letter_option : (l : ℕ) → is_some (option_of l) ≡ true → (o : RepairOption) × (l ≡ letter o)
