@@ -1,5 +1,5 @@
 -- A file of N and C alone that is accepted is the file that write makes of its study.
-use Rattle.std.proofs.Common.{◌≡◌, ℕ, ◌+◌, ◌⊎◌, List, [], ◌∷◌, ◌++◌, length, sym, refl, ap, ◌∙◌, subst, inl, inr, append_assoc, append-nil, arith}
+use Rattle.std.proofs.Common.{◌≡◌, ℕ, ◌+◌, ◌⊎◌, List, [], ◌∷◌, ◌++◌, length, sym, refl, ap, ◌∙◌, subst, append_assoc, append-nil, arith}
 use Rattle.std.specs.List.{AllByRecursion}
 use Rattle.model.specs.declared.component.Component.{Component}
 use Rattle.model.specs.Studies.{Model, entered, blank_study}
@@ -47,10 +47,7 @@ all_back (next s u t x r rs e later) readable are numbered =
 
 -- no T and no F
 uncharged : (r : List ℕ) → IsNOrC r → IsT r ⊎ IsF r → ⊥
-uncharged r (inl n) (inl t) = omega (arith, t.of_kind)
-uncharged r (inl n) (inr f) = omega (arith, f.of_kind)
-uncharged r (inr c) (inl t) = omega (arith, t.of_kind)
-uncharged r (inr c) (inr f) = omega (arith, f.of_kind)
+uncharged r only is = grind arith
 
 none_charged : (cs ts : List (List ℕ)) → AllByRecursion IsNOrC (cs ++ ts) → AllByRecursion (λ r. IsT r ⊎ IsF r) ts → cs ++ ts ≡ cs
 none_charged cs [] only are = append-nil cs

@@ -65,6 +65,7 @@ fn is_blank(record: &Record, from: usize, count: usize) -> bool
 fn is_filled(record: &Record) -> bool
     ensures { result ≡ is_filled «record».now }
 {
+    // Stays: the kind letters are the file format's.
     match record[0] {
         b'N' => is_blank(record, 3, 21),
         b'C' => is_blank(record, 6, 2) && is_blank(record, 12, 12),
@@ -77,6 +78,7 @@ fn is_filled(record: &Record) -> bool
 fn on_answer<A: Drop>(at: u16, answer: Result<A, Refusal>) -> Result<(), Refusal>
     ensures { (s : Model) → leaving result s ≡ accepted at (answer, s) }
 {
+    // Stays: the line of such a refusal prints the number of the study's own.
     answer.map(|_| ()).map_err(|why| Refusal::RecordRefused {
         record: at,
         number: why.number(),
@@ -115,6 +117,7 @@ impl Reading {
         ensures moves { self.new.stage ≡ unwrap_or (next_stage self.old.stage kind) self.old.stage }
         ensures keeps { self.new.study ≡ self.old.study }
     {
+        // Stays: a named form, the stage matched together with the kind letter.
         match (self.stage, kind) {
             (Stage::Opening, b'N') => {
                 self.stage = Stage::Components;

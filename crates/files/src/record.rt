@@ -15,6 +15,7 @@ pub(crate) type Record = [u8; RECORD_LENGTH];
 pub fn option_of(letter: u8) -> Option<RepairOption>
     ensures { result ≡ option_of letter }
 {
+    // Stays: a named form, the byte as a character decided by the literals.
     match letter as char {
         'D' => Some(RepairOption::Discard),
         'R' => Some(RepairOption::Repair),

@@ -51,6 +51,7 @@ pub fn write(study: &Study, place: &mut [u8]) -> Result<usize, Refusal>
         0,
     );
     for (i, component) in components.iter().enumerate() {
+        // Stays: a middle part is lent by its bounds, a named form; chunks lent in turn tell nothing of the place afterwards.
         let at = i + 1;
         encode(
             &mut place[RECORD_LENGTH * at..RECORD_LENGTH * at + RECORD_LENGTH],
