@@ -7,7 +7,7 @@ use Rattle.model.specs.Studies.{Model, blank_study, on_open}
 use Rattle.files.specs.declared.intake.Stage.TheVariants.{Components, Charges}
 use Rattle.files.specs.Records.{byte, records, needs_of, rate_of}
 use Rattle.files.specs.Intakes.{State, on_record, and_then, run, start, taken_in}
-use Rattle.files.specs.AcceptedFiles.{IsN, IsC, Entered, none, next, Accepted, AcceptedExactly}
+use Rattle.files.specs.AcceptedFiles.{IsC, Entered, none, next, Accepted, AcceptedExactly}
 use Rattle.files.proofs.RecordLists.{records_length}
 use Rattle.files.proofs.Runs.{right_length, taken_run}
 use Rattle.files.proofs.Calls.{opened_empty, entered_one}
@@ -111,31 +111,6 @@ run_components ts at (next s u m n r rs e more) cs-are numbered ts-are =
     let rest = subst (λ k. NumberedFrom k rs) (sym one) (numbered_rest (length s.components) r rs numbered) in
     go_on at (at_stage Components s) r (rs ++ ts) (at_stage Components u) m (component_taken s u n at r cs-are.0 first e) (run_components ts (at + 1) more cs-are.1 rest ts-are)
 
--- the stage before the N: one N, then as above
-record Opened (rs : List (List ℕ)) (m : Model) : Type 0 where
-  opening : List ℕ
-  rest : List (List ℕ)
-  opened : Model
-  in_order : rs ≡ opening ∷ rest
-  first_n : IsN opening
-  opens : on_open blank_study (byte opening 1) (byte opening 2) ≡ (Ok tt, opened)
-  parted : Parted opened rest m
-
-opening_run : (rs : List (List ℕ)) (m : Model) → 0 < length rs → run 0 start rs ≡ Ok m → Opened rs m
-opening_run [] m l h = absurd (omega arith)
-opening_run (r ∷ rs) m l h =
-    let on = going_on 0 start r rs m h in
-    let here = opening_step blank_study 0 r on.0 on.1 in
-    record {
-      opening = r;
-      rest = rs;
-      opened = on.0.study;
-      in_order = refl;
-      first_n = here.0;
-      opens = here.1;
-      parted = components_run rs 1 on.0.study m (ap (λ t. run 1 t rs) here.2 ∙ on.2);
-    }
-
 -- the C of a file are numbered from 0, since open leaves no component
 from_zero : (s : Model) (e q : ℕ) (u : Model) → on_open s e q ≡ (Ok tt, u) → (cs : List (List ℕ)) → NumberedFrom (length u.components) cs → (i : ℕ) → i < length cs → byte (get_or cs i []) 1 ≡ i
 from_zero s e q u h cs numbered i l = let z = opened_empty s e q tt u h in omega (arith, numbered i l)
@@ -143,23 +118,27 @@ from_zero s e q u h cs numbered i l = let z = opened_empty s e q tt u h in omega
 zero_from : (s : Model) (e q : ℕ) (u : Model) → on_open s e q ≡ (Ok tt, u) → (cs : List (List ℕ)) → ((i : ℕ) → i < length cs → byte (get_or cs i []) 1 ≡ i) → NumberedFrom (length u.components) cs
 zero_from s e q u h cs numbered i l = let z = opened_empty s e q tt u h in omega (arith, numbered i l)
 
-ordered : (file : List ℕ) (study : Model) → length file % 24 ≡ 0 → 24 ≤ length file → length file ≤ 65_520 → Opened (records file) study → Accepted file study
-ordered file study by-24 long short o =
-    let parts = o.parted in
+-- the stage before the N: one N, then as above
+opening_run : (file : List ℕ) (rs : List (List ℕ)) (study : Model) → records file ≡ rs → length file % 24 ≡ 0 → 24 ≤ length file → length file ≤ 65_520 → run 0 start rs ≡ Ok study → Accepted file study
+opening_run file [] study are whole some few h = let none-read = ap length are in let n = records_length file in absurd (omega arith)
+opening_run file (r ∷ rs) study are whole some few h =
+    let on = going_on 0 start r rs study h in
+    let here = opening_step blank_study 0 r on.0 on.1 in
+    let parts = components_run rs 1 on.0.study study (ap (λ t. run 1 t rs) here.2 ∙ on.2) in
     record {
-      whole = by-24;
-      some = long;
-      few = short;
-      opening = o.opening;
+      whole = whole;
+      some = some;
+      few = few;
+      opening = r;
       components = parts.components;
       charges = parts.charges;
-      in_order = o.in_order ∙ ap (λ rs. o.opening ∷ rs) parts.in_order;
-      first_n = o.first_n;
+      in_order = are ∙ ap (λ xs. r ∷ xs) parts.in_order;
+      first_n = here.0;
       then_c = parts.then_c;
       then_t_and_f = parts.then_t_and_f;
-      numbered = from_zero blank_study (byte o.opening 1) (byte o.opening 2) o.opened o.opens parts.components parts.numbered;
-      opened = o.opened;
-      opens = o.opens;
+      numbered = from_zero blank_study (byte r 1) (byte r 2) on.0.study here.1 parts.components parts.numbered;
+      opened = on.0.study;
+      opens = here.1;
       enters = parts.enters;
     }
 
@@ -167,8 +146,7 @@ accepted : (file : List ℕ) (study : Model) → taken_in file ≡ Ok study → 
 accepted file study h =
     let sized : (length file % 24 ≡ 0) × (24 ≤ length file) × (length file ≤ 65_520) = grind (arith, nat_tests) in
     let ran : run 0 start (records file) ≡ Ok study = grind (arith, nat_tests) in
-    let n = records_length file in
-    ordered file study sized.0 sized.1 sized.2 (opening_run (records file) study (omega arith) ran)
+    opening_run file (records file) study refl sized.0 sized.1 sized.2 ran
 
 accepting : (file : List ℕ) (study : Model) → Accepted file study → taken_in file ≡ Ok study
 accepting file study a =
