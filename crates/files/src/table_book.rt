@@ -60,7 +60,7 @@ fn is_within(question: Question, charge: Charge) -> bool
     }
 }
 
-// The charge that the records enter for a question, if any. There cannot be several.
+// The charge that the records enter for a question, if any. Several are an error.
 fn only_charge(records: &[Record], question: Question) -> Result<Option<Charge>, Cause>
     ensures { result ≡ only (charges question records.now) }
 {
