@@ -1,20 +1,22 @@
 -- Entries and lists of a study within its limits: an entry is its component and the list under it.
 use Rattle.std.proofs.Common.{◌≡◌, ℕ, zero, suc, ◌+◌, ◌-◌, ◌<◌, ◌≤◌, true, false, cond, List, [], ◌∷◌, Some, None, Option, sym, refl, ap, ◌∙◌, inl, inr, arith}
 use Rattle.std.proofs.lemmas.Bool.{eqb-true, cases_Bool, both_ways}
+use Rattle.std.specs.Option.{option_eq}
+use Rattle.std.specs.Prelude.{nat_eq}
 use Rattle.model.specs.declared.component.Component.{Component}
 use Rattle.model.specs.Components.{level_under}
 use Rattle.model.specs.Studies.{Model, Limits}
 use Rattle.plans.specs.Postings.{component}
 use Rattle.plans.specs.Questions.{count}
 use Rattle.plans.specs.Starts.{parent}
-use Rattle.reports.specs.LineOrder.{same_parent, is_under, listed, entry, entry_of, order}
+use Rattle.reports.specs.LineOrder.{is_under, listed, entry, entry_of, order}
 use Rattle.reports.proofs.Ranges.{upto_same, upto_skip}
 
-pub same_parent_true : (a b : Option ℕ) → same_parent a b ≡ true → a ≡ b
-same_parent_true None None h = refl
-same_parent_true None (Some p) h = absurd (both_ways false refl h)
-same_parent_true (Some q) None h = absurd (both_ways false refl h)
-same_parent_true (Some q) (Some p) h = ap Some (eqb-true q p h)
+pub option_eq_true : (a b : Option ℕ) → option_eq nat_eq a b ≡ true → a ≡ b
+option_eq_true None None h = refl
+option_eq_true None (Some p) h = absurd (both_ways false refl h)
+option_eq_true (Some q) None h = absurd (both_ways false refl h)
+option_eq_true (Some q) (Some p) h = ap Some (eqb-true q p h)
 
 -- the indenture level of a component
 abbrev pub level : Model → ℕ → ℕ
@@ -27,7 +29,7 @@ under_low cs (Some p) = omega arith
 module _ (s : Model) (limits : Limits s) where
   -- a component under p is one level deeper
   pub level_is : (p : Option ℕ) (k : ℕ) → k < count s → is_under s p k ≡ true → level s k ≡ level_under s.components p
-  level_is p k h u = (limits.sound_rows k h).1 ∙ ap (level_under s.components) (same_parent_true (parent s k) p u)
+  level_is p k h u = (limits.sound_rows k h).1 ∙ ap (level_under s.components) (option_eq_true (parent s k) p u)
 
   pub level_low : (k : ℕ) → k < count s → 1 ≤ level s k
   level_low k h = omega (arith, (limits.sound_rows k h).1, under_low s.components (parent s k))

@@ -3,18 +3,22 @@ use Rattle.std.proofs.Common.{◌≡◌, ℕ, ◌+◌, ◌<◌, ◌≤◌, true,
 use Rattle.std.specs.List.{AllByRecursion}
 use Rattle.std.proofs.ByRecursion.{All-weaker}
 use Rattle.std.proofs.lemmas.Bool.{ltb-true}
+use Rattle.std.specs.Cmp.Lexicographic.{options_equiv}
+use Rattle.std.proofs.lemmas.Cmp.{nat_eq_equiv}
+use Rattle.std.specs.Option.{option_eq}
+use Rattle.std.specs.Prelude.{nat_eq}
 use Rattle.model.specs.Components.{is_entered, level_under}
 use Rattle.model.specs.Studies.{Model, Limits}
 use Rattle.plans.specs.Questions.{count}
 use Rattle.plans.specs.Starts.{parent}
-use Rattle.reports.specs.LineOrder.{same_parent, is_under, listed_below, listed, entry_of}
+use Rattle.reports.specs.LineOrder.{is_under, listed_below, listed, entry_of}
 use Rattle.reports.specs.OrderLaws.{Follows}
 use Rattle.reports.specs.Reports.{indent}
 use Rattle.reports.proofs.Depths.{below_deep}
 use Rattle.reports.proofs.Entries.{level, level_is, level_low, entry_is}
 use Rattle.reports.proofs.Listing.{listed_split}
 use Rattle.reports.proofs.Ranges.{upto_split}
-use Rattle.reports.proofs.Standing.{same_itself, entered_more, heading, list_stands}
+use Rattle.reports.proofs.Standing.{entered_more, heading, list_stands}
 
 after_parent : (a u m r b : List ℕ) (p i : ℕ) → a ++ ((p ∷ []) ++ ((u ++ ((i ∷ m) ++ r)) ++ b)) ≡ a ++ p ∷ (u ++ i ∷ (m ++ (r ++ b)))
 after_parent a u m r b p i = simp append_assoc
@@ -28,7 +32,7 @@ all_right P (x ∷ xs) ys h = all_right P xs ys h.1
 
 module _ (s : Model) (limits : Limits s) where
   under_it : (i : ℕ) (p : Option ℕ) → parent s i ≡ p → is_under s p i ≡ true
-  under_it i p e = ap (λ o. same_parent o p) e ∙ same_itself p
+  under_it i p e = ap (λ o. option_eq nat_eq o p) e ∙ (options_equiv nat_eq_equiv).refl p
 
   entered_in : (i : ℕ) (p : Option ℕ) → i < count s → parent s i ≡ p → is_entered (count s) p ≡ true
   entered_in i p h e =

@@ -4,6 +4,7 @@ use Rattle.std.specs.Int.Signed.{mag}
 use Rattle.std.specs.Fmt.{signed_decimal}
 use Rattle.std.proofs.lemmas.Fmt.{length-decimal-le, length_signed_le}
 use Rattle.std.proofs.lemmas.List.{length-replicate}
+use Rattle.std.proofs.lemmas.List.Concat.{length-flat_map}
 use Rattle.std.proofs.lemmas.Bool.{cond_both, and_parts, leb-true}
 use Rattle.model.specs.Studies.{Model, Limits}
 use Rattle.plans.specs.Questions.{count}
@@ -13,7 +14,7 @@ use Rattle.reports.specs.LineOrder.{order}
 use Rattle.reports.specs.Lines.{decision_text, component_line, total_line}
 use Rattle.reports.specs.Reports.{indent, line, lines, report_text}
 use Rattle.reports.proofs.Entries.{level_high}
-use Rattle.reports.proofs.Totals.{total_le, length_joined}
+use Rattle.reports.proofs.Totals.{total_le}
 use Rattle.reports.proofs.Weights.{order_weight}
 
 -- at most 3 bytes: the letter, a digit and byte 10
@@ -47,7 +48,7 @@ module _ (s : Model) (limits : Limits s) (plan : List ℕ) where
   lines_short =
       omega (
         arith,
-        length_joined (line s plan) (order s),
+        length-flat_map (line s plan) (order s),
         order_weight s limits (λ i. length (line s plan i)),
         total_le (λ i. length (line s plan i)) 14 (count s) line_short,
       )

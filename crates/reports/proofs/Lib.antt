@@ -5,8 +5,9 @@ pub mod Entries
 pub mod Following
 pub mod Lengths
 pub mod Listing
-pub mod Puts
+pub mod Writing
 pub mod Ranges
+pub mod Reading
 pub mod RefusalLines
 pub mod RefusalsNamed
 pub mod ReportLines

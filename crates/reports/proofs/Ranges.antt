@@ -1,6 +1,5 @@
 -- Lists over the numbers below n: what they share, what they skip, and how one splits at a number.
-use Rattle.std.proofs.Common.{◌≡◌, ℕ, zero, suc, ◌+◌, ◌-◌, ◌<◌, ◌≤◌, List, [], ◌∷◌, ◌++◌, sym, refl, ap, ◌∙◌, append_assoc, append-nil, add-zero, add-suc, add-one, arith}
-use Rattle.std.specs.List.{flat_map}
+use Rattle.std.proofs.Common.{◌≡◌, ℕ, zero, suc, ◌+◌, ◌-◌, ◌<◌, ◌≤◌, List, [], ◌++◌, sym, refl, ap, ◌∙◌, append_assoc, append-nil, add-zero, add-suc, add-one, arith}
 use Rattle.plans.specs.Ranges.{upto}
 
 -- equal parts make equal lists
@@ -42,8 +41,3 @@ upto_split f i n h =
     let e : suc i + (n - suc i) ≡ n = omega arith in
     let r = after_by f i (n - suc i) in
     (r.0, ap (upto f) (sym e) ∙ r.1)
-
--- texts of two lists in turn
-pub joined_append : {X A : Type 0} (f : X → List A) (xs ys : List X) → flat_map f (xs ++ ys) ≡ flat_map f xs ++ flat_map f ys
-joined_append f [] ys = refl
-joined_append f (x ∷ xs) ys = ap (λ l. f x ++ l) (joined_append f xs ys) ∙ sym (append_assoc (f x) (flat_map f xs) (flat_map f ys))

@@ -1,17 +1,15 @@
 -- Where each list stands in the order of the lines.
 use Rattle.std.proofs.Common.{◌≡◌, ℕ, zero, suc, ◌<◌, ◌≤◌, true, List, [], ◌∷◌, ◌++◌, Some, None, Option, sym, refl, ap, ◌∙◌, append_assoc, append-nil, arith}
-use Rattle.std.proofs.lemmas.Bool.{ltb-true, lt-ltb, eq-eqb}
+use Rattle.std.proofs.lemmas.Bool.{ltb-true, lt-ltb}
+use Rattle.std.specs.Cmp.Lexicographic.{options_equiv}
+use Rattle.std.proofs.lemmas.Cmp.{nat_eq_equiv}
 use Rattle.model.specs.Components.{is_entered}
 use Rattle.model.specs.Studies.{Model, Limits}
 use Rattle.plans.specs.Questions.{count}
 use Rattle.plans.specs.Starts.{parent}
-use Rattle.reports.specs.LineOrder.{same_parent, listed_below, listed, entry_of, order}
+use Rattle.reports.specs.LineOrder.{listed_below, listed, entry_of, order}
 use Rattle.reports.proofs.Entries.{entry_is, order_is}
 use Rattle.reports.proofs.Listing.{listed_split}
-
-pub same_itself : (o : Option ℕ) → same_parent o o ≡ true
-same_itself None = refl
-same_itself (Some p) = eq-eqb p p refl
 
 pub entered_more : (m n : ℕ) (o : Option ℕ) → m ≤ n → is_entered m o ≡ true → is_entered n o ≡ true
 entered_more m n None l h = refl
@@ -35,7 +33,7 @@ module _ (s : Model) (limits : Limits s) where
       let before : q < suc m = ltb-true q (suc m) h in
       let inside : q < count s = omega arith in
       let r = list_stands m o (entered_more q m o (omega arith) (limits.sound_rows q inside).0) (omega arith) in
-      let split = listed_split s (entry_of s) o q inside (same_itself o) in
+      let split = listed_split s (entry_of s) o q inside ((options_equiv nat_eq_equiv).refl o) in
       let front = listed_below s (entry_of s) o q in (
         r.0 ++ (heading o ++ front),
         (

@@ -1,6 +1,5 @@
 -- Sums over the numbers below n.
-use Rattle.std.proofs.Common.{◌≡◌, ℕ, zero, suc, ◌+◌, ◌*◌, ◌<◌, ◌≤◌, cond, eqb, List, [], ◌∷◌, length, sum_by, sym, refl, ap, ◌∙◌, inl, inr, mul-suc, arith, length-append}
-use Rattle.std.specs.List.{flat_map}
+use Rattle.std.proofs.Common.{◌≡◌, ℕ, zero, suc, ◌+◌, ◌*◌, ◌<◌, ◌≤◌, cond, eqb, List, [], ◌∷◌, length, sum_by, refl, ap, ◌∙◌, inl, inr, mul-suc, arith}
 use Rattle.std.proofs.lemmas.List.Sums.{sum_by-cons, sum_by-append}
 use Rattle.std.proofs.lemmas.Bool.{cases_eq, eq-eqb, ne_eqb}
 use Rattle.plans.specs.Ranges.{upto}
@@ -70,8 +69,3 @@ weight_upto w f (suc n) = sum_by-append w (upto f n) (f n) ∙ ap (λ x. x + sum
 pub length_sum : (xs : List ℕ) → sum_by (λ x. 1) xs ≡ length xs
 length_sum [] = refl
 length_sum (x ∷ xs) = let first = sum_by-cons (λ (y : ℕ). 1) x xs in let rest = length_sum xs in omega arith
-
-pub length_joined : (f : ℕ → List ℕ) (xs : List ℕ) → length (flat_map f xs) ≡ sum_by (λ x. length (f x)) xs
-length_joined f [] = refl
-length_joined f (x ∷ xs) =
-    length-append (f x) (flat_map f xs) ∙ ap (λ n. length (f x) + n) (length_joined f xs) ∙ sym (sum_by-cons (λ y. length (f y)) x xs)

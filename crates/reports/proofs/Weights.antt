@@ -2,11 +2,13 @@
 use Rattle.std.proofs.Common.{◌≡◌, ℕ, ◌+◌, ◌<◌, Bool, true, false, cond, List, [], Some, None, sum_by, Option, sym, refl, ap, ◌∙◌, arith}
 use Rattle.std.proofs.lemmas.List.Sums.{sum_by-cons}
 use Rattle.std.proofs.lemmas.Bool.{ltb-true}
+use Rattle.std.specs.Option.{option_eq}
+use Rattle.std.specs.Prelude.{nat_eq}
 use Rattle.model.specs.Components.{is_entered}
 use Rattle.model.specs.Studies.{Model, Limits}
 use Rattle.plans.specs.Questions.{count}
 use Rattle.plans.specs.Starts.{parent}
-use Rattle.reports.specs.LineOrder.{same_parent, is_under, listed, entry_of, order}
+use Rattle.reports.specs.LineOrder.{is_under, listed, entry_of, order}
 use Rattle.reports.proofs.Entries.{entry_is, order_is}
 use Rattle.reports.proofs.Totals.{total, total_same, total_zero, total_add, total_swap, total_at, weight_upto}
 
@@ -15,7 +17,7 @@ weight_cond w true xs = refl
 weight_cond w false xs = refl
 
 -- a component stands under one parent, which was entered before it, or it is a top component
-one_parent : (q : Option ℕ) (k n x : ℕ) → k < n → is_entered k q ≡ true → x ≡ cond (same_parent q None) x 0 + total (λ i. cond (same_parent q (Some i)) x 0) n
+one_parent : (q : Option ℕ) (k n x : ℕ) → k < n → is_entered k q ≡ true → x ≡ cond (option_eq nat_eq q None) x 0 + total (λ i. cond (option_eq nat_eq q (Some i)) x 0) n
 one_parent None k n x l h = let none = total_zero (λ i. 0) n (λ k b. refl) in omega arith
 one_parent (Some p) k n x l h =
     let before : p < k = ltb-true p k h in

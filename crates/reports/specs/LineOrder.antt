@@ -1,21 +1,15 @@
 -- The order of a report's lines: each component before those under it, and those under one parent by their numbers.
-use Rattle.std.specs.Prelude.{ℕ, zero, suc, ◌-◌, Bool, true, false, cond, List, [], ◌∷◌, Some, None, Option, ◌==◌}
+use Rattle.std.specs.Prelude.{ℕ, zero, suc, ◌-◌, Bool, cond, List, [], ◌∷◌, Some, None, Option, nat_eq}
+use Rattle.std.specs.Option.{option_eq}
 use Rattle.model.specs.Studies.{Model}
 use Rattle.plans.specs.Ranges.{upto}
 use Rattle.plans.specs.Postings.{component}
 use Rattle.plans.specs.Questions.{count}
 use Rattle.plans.specs.Starts.{parent}
 
--- two parents are the same: both are none, as of top components, or both are one number
-abbrev pub same_parent : Option ℕ → Option ℕ → Bool
-same_parent None None = true
-same_parent None (Some p) = false
-same_parent (Some q) None = false
-same_parent (Some q) (Some p) = q == p
-
--- component i stands directly under p
+-- component i stands directly under p, which is none above the top components
 abbrev pub is_under : Model → Option ℕ → ℕ → Bool
-is_under s p i = same_parent (parent s i) p
+is_under s p i = option_eq nat_eq (parent s i) p
 
 -- what `entry` gives for each component under p that is numbered below n, in number order
 abbrev pub listed_below : Model → (ℕ → List ℕ) → Option ℕ → ℕ → List ℕ

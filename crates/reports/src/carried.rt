@@ -1,12 +1,13 @@
 // What a refusal carries, put into a place as words: numbers and signs, each after a blank.
-ghost use Rattle.std.specs.Prelude.{◌≡◌, ◌+◌, ◌<◌, ◌≤◌, [], ◌++◌, length, codes, decimal};
+ghost use Rattle.std.specs.Prelude.{◌≡◌, ◌+◌, ◌<◌, ◌≤◌, [], ◌++◌, codes};
 ghost use Rattle.std.proofs.Math.Utf8.{encode};
 ghost use Rattle.model.specs.declared.refusal.Refusal.TheVariants.{BookFault};
-ghost use Rattle.model.specs.Refusals.{said, asked, cause_number, subject, at_echelon, option_letter};
+ghost use Rattle.model.specs.Refusals.{said, asked, cause_number};
 ghost use Rattle.reports.specs.Lines.{words};
-ghost use Rattle.reports.specs.Places.{Puts};
+ghost use Rattle.reports.specs.Places.{HasRoom, Puts};
 
-use crate::place::{put_bytes, put_number};
+use crate::place::Writer;
+use itoa::{Buffer, Integer};
 use model::answer::{Cause, Fault};
 use model::question::Question;
 use model::refusal::Refusal;
@@ -15,109 +16,84 @@ use model::refusal::Refusal;
 fn cause_number(cause: Cause) -> u8
     ensures { result ≡ cause_number cause }
 {
-    match cause {
-        Cause::BeyondLimits => 1,
-        Cause::EnteredTwice => 2,
+    cause as u8 + 1
+}
+
+impl Writer<'_> {
+    // Puts a blank and a number: for a byte at most 4 bytes, and for a record's number at most 6.
+    pub(crate) fn word<I: Integer>(&mut self, number: I)
+        requires { HasRoom self.old (1 + I.MAX_STR_LEN) }
+        ensures puts { Puts self.old (codes " " ++ I.text number) self.new }
+        ensures few { self.new.at ≤ self.old.at + (1 + I.MAX_STR_LEN) }
+    {
+        self.bytes(b" ");
+        self.bytes(Buffer::new().format(number).as_bytes());
     }
-}
 
-// The component or the resource that a question asks about.
-fn subject_of(question: Question) -> u8
-    ensures { result ≡ subject question }
-{
-    match question {
-        Question::OfOption { component, .. } => component,
-        Question::OfResource { resource, .. } => resource,
+    // Puts a blank and a character, at most 5 bytes.
+    fn sign(&mut self, sign: char)
+        requires { HasRoom self.old 5 }
+        ensures puts { Puts self.old (codes " " ++ encode sign) self.new }
+        ensures few { self.new.at ≤ self.old.at + 5 }
+        ensures fewer { sign < 128 → self.new.at ≤ self.old.at + 2 }
+    {
+        self.bytes(b" ");
+        self.bytes(sign.encode_utf8(&mut [0; 4]).as_bytes());
     }
-}
 
-// The echelon that a question asks about.
-fn echelon_of(question: Question) -> u8
-    ensures { result ≡ at_echelon question }
-{
-    match question {
-        Question::OfOption { echelon, .. } => echelon,
-        Question::OfResource { echelon, .. } => echelon,
+    // Puts what a question asks about, at most 13 bytes: the component or the resource, the echelon, and the option's
+    // letter, or F for a resource.
+    fn asked(&mut self, question: Question)
+        requires { HasRoom self.old 13 }
+        ensures puts { Puts self.old (words (asked question) []) self.new }
+        ensures few { self.new.at ≤ self.old.at + 13 }
+    {
+        let (subject, echelon, letter) = match question {
+            Question::OfOption {
+                component,
+                echelon,
+                option,
+            } => (component, echelon, option.letter()),
+            Question::OfResource { resource, echelon } => (resource, echelon, 'F'),
+        };
+        self.word(subject);
+        self.word(echelon);
+        self.sign(letter);
     }
-}
 
-// The letter of the option that a question asks about, or F for a resource.
-fn letter_of(question: Question) -> char
-    ensures { result ≡ option_letter question }
-{
-    match question {
-        Question::OfOption { option, .. } => option.letter(),
-        Question::OfResource { .. } => 'F',
+    // Puts what a fault of a book carries, at most 26 bytes.
+    fn fault(&mut self, fault: &Fault)
+        requires { HasRoom self.old 26 }
+        ensures puts { Puts self.old (words (said (BookFault fault.now)).carried []) self.new }
+        ensures few { self.new.at ≤ self.old.at + 26 }
+    {
+        self.word(cause_number(fault.cause));
+        self.sign(fault.letter);
+        self.word(fault.height);
+        self.asked(fault.question);
     }
-}
 
-// Puts a blank and a number into the place, at most 6 bytes, and for a byte at most 4.
-fn put_word(place: &mut [u8], at: usize, number: u16) -> usize
-    requires { at + 6 ≤ length place.old }
-    ensures puts { Puts place.old at (codes " " ++ decimal number) result place.new }
-    ensures few { result ≤ at + 6 }
-    ensures fewer { number < 256 → result ≤ at + 4 }
-{
-    let digits = put_bytes(place, at, b" ");
-    put_number(place, digits, u64::from(number))
-}
-
-// Puts a blank and a character into the place, at most 5 bytes.
-fn put_sign(place: &mut [u8], at: usize, sign: char) -> usize
-    requires { at + 5 ≤ length place.old }
-    ensures puts { Puts place.old at (codes " " ++ encode sign) result place.new }
-    ensures few { result ≤ at + 5 }
-    ensures fewer { sign < 128 → result ≤ at + 2 }
-{
-    let next = put_bytes(place, at, b" ");
-    let mut bytes = [0; 4];
-    let text = sign.encode_utf8(&mut bytes);
-    put_bytes(place, next, text.as_bytes())
-}
-
-// Puts what a question asks about into the place, at most 13 bytes.
-fn put_asked(place: &mut [u8], at: usize, question: Question) -> usize
-    requires { at + 13 ≤ length place.old }
-    ensures puts { Puts place.old at (words (asked question) []) result place.new }
-    ensures few { result ≤ at + 13 }
-{
-    let echelon = put_word(place, at, u16::from(subject_of(question)));
-    let letter = put_word(place, echelon, u16::from(echelon_of(question)));
-    put_sign(place, letter, letter_of(question))
-}
-
-// Puts what a fault of a book carries into the place, at most 26 bytes.
-fn put_fault(place: &mut [u8], at: usize, fault: &Fault) -> usize
-    requires { at + 26 ≤ length place.old }
-    ensures puts { Puts place.old at (words (said (BookFault fault.now)).carried []) result place.new }
-    ensures few { result ≤ at + 26 }
-{
-    let letter = put_word(place, at, u16::from(cause_number(fault.cause)));
-    let height = put_sign(place, letter, fault.letter);
-    let question = put_word(place, height, u16::from(fault.height));
-    put_asked(place, question, fault.question)
-}
-
-// Puts what a refusal carries into the place, at most 26 bytes.
-pub(crate) fn put_carried(place: &mut [u8], at: usize, refusal: &Refusal) -> usize
-    requires { at + 26 ≤ length place.old }
-    ensures puts { Puts place.old at (words (said refusal.now).carried []) result place.new }
-    ensures few { result ≤ at + 26 }
-{
-    match refusal {
-        Refusal::BookFault(fault) => put_fault(place, at, fault),
-        Refusal::ByteTooLarge { component }
-        | Refusal::ReachMismatch { component }
-        | Refusal::BeforeStart { component }
-        | Refusal::OptionClosed { component }
-        | Refusal::ResourceClosed { component } => put_word(place, at, u16::from(*component)),
-        Refusal::RecordKind { record }
-        | Refusal::RecordContent { record }
-        | Refusal::ComponentNumber { record } => put_word(place, at, *record),
-        Refusal::RecordRefused { record, number } => {
-            let next = put_word(place, at, *record);
-            put_word(place, next, u16::from(*number))
+    // Puts what a refusal carries, at most 26 bytes.
+    pub(crate) fn carried(&mut self, refusal: &Refusal)
+        requires { HasRoom self.old 26 }
+        ensures puts { Puts self.old (words (said refusal.now).carried []) self.new }
+        ensures few { self.new.at ≤ self.old.at + 26 }
+    {
+        match refusal {
+            Refusal::BookFault(fault) => self.fault(fault),
+            Refusal::ByteTooLarge { component }
+            | Refusal::ReachMismatch { component }
+            | Refusal::BeforeStart { component }
+            | Refusal::OptionClosed { component }
+            | Refusal::ResourceClosed { component } => self.word(*component),
+            Refusal::RecordKind { record }
+            | Refusal::RecordContent { record }
+            | Refusal::ComponentNumber { record } => self.word(*record),
+            Refusal::RecordRefused { record, number } => {
+                self.word(*record);
+                self.word(*number);
+            }
+            _ => {}
         }
-        _ => at,
     }
 }

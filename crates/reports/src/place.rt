@@ -1,38 +1,50 @@
-// Bytes and numbers that are put into a place, from a given byte on.
-ghost use Rattle.std.specs.Prelude.{decimal};
-ghost use Rattle.std.specs.Fmt.{signed_decimal};
-ghost use Rattle.reports.specs.Places.{Room, Puts};
+// A place that texts are put into, one after another.
+ghost use Rattle.std.specs.Prelude.{◌≡◌, ◌≤◌, length};
 
-// Puts the bytes into the place, and answers where they end.
-pub(crate) fn put_bytes(place: &mut [u8], at: usize, bytes: &[u8]) -> usize
-    requires { Room place.old at bytes.now }
-    ensures { Puts place.old at bytes.now result place.new }
-{
-    let end = at + bytes.len();
-    place[at..end].copy_from_slice(bytes);
-    end
+use itoa::{Buffer, Integer};
+
+// The place, and the byte where the next text begins.
+#[derive(Drop)]
+pub(crate) struct Writer<'a> {
+    place: &'a mut [u8],
+    at: usize,
+    ghost within: { at ≤ length place.now },
 }
 
-// Puts the decimal digits of a number into the place, and answers where they end.
-pub(crate) fn put_number(place: &mut [u8], at: usize, number: u64) -> usize
-    requires { Room place.old at (decimal number) }
-    ensures { Puts place.old at (decimal number) result place.new }
-{
-    if number < 10 {
-        return put_bytes(place, at, &[b'0' + number as u8]);
-    }
-    let end = put_number(place, at, number / 10);
-    put_bytes(place, end, &[b'0' + (number % 10) as u8])
-}
+impl<'a> Writer<'a> {
+    ghost use Rattle.reports.specs.Places.{Room, Puts};
 
-// Puts a number into the place, with `-` in front where it is negative, and answers where it ends.
-pub(crate) fn put_signed(place: &mut [u8], at: usize, number: i64) -> usize
-    requires { Room place.old at (signed_decimal number) }
-    ensures { Puts place.old at (signed_decimal number) result place.new }
-{
-    if number >= 0 {
-        return put_number(place, at, number.unsigned_abs());
+    // A writer at the front of the place.
+    pub(crate) fn new(place: &'a mut [u8]) -> Writer<'a>
+        ensures lent { result.place.ghost_name ≡ place.entry.ghost_name }
+        ensures place { result.place.now ≡ place.old }
+        ensures front { result.at ≡ 0 }
+    {
+        Writer { place, at: 0 }
     }
-    let next = put_bytes(place, at, b"-");
-    put_number(place, next, number.unsigned_abs())
+
+    // Where the texts so far end.
+    pub(crate) fn end(&self) -> usize
+        ensures { result ≡ self.now.at }
+    {
+        self.at
+    }
+
+    // Puts the bytes into the place.
+    pub(crate) fn bytes(&mut self, bytes: &[u8])
+        requires { Room self.old bytes.now }
+        ensures { Puts self.old bytes.now self.new }
+    {
+        let end = self.at + bytes.len();
+        self.place[self.at..end].copy_from_slice(bytes);
+        self.at = end;
+    }
+
+    // Puts a number into the place in decimal digits, with `-` in front where it is negative.
+    pub(crate) fn number<I: Integer>(&mut self, number: I)
+        requires { Room self.old (I.text number) }
+        ensures { Puts self.old (I.text number) self.new }
+    {
+        self.bytes(Buffer::new().format(number).as_bytes());
+    }
 }

@@ -1,24 +1,25 @@
 // The refusal line: `refused`, the number of the question that failed, and what the refusal carries.
 ghost use Rattle.std.specs.Prelude.{◌≡◌, ◌≤◌, length, IfOk};
 ghost use Rattle.reports.specs.Lines.{refusal_line};
-ghost use Rattle.reports.specs.Places.{Puts};
 ghost use Rattle.reports.specs.RefusalBytes.{in_40_bytes};
+ghost use Rattle.reports.specs.Reports.{at_front};
 
-use crate::carried::put_carried;
-use crate::place::{put_bytes, put_number};
+use crate::place::Writer;
 use model::refusal::Refusal;
 use std::alloc::{AllocError, Global};
 
 // Puts the line at the front of a place of 40 bytes, and answers where it ends.
-fn put_refusal(place: &mut [u8], refusal: &Refusal) -> usize
-    requires { 40 ≤ length place.old }
-    ensures puts { Puts place.old 0 (refusal_line refusal.now) result place.new }
+fn put_refusal(place: &mut [u8; 40], refusal: &Refusal) -> usize
+    ensures holds { place.new ≡ at_front (refusal_line refusal.now) place.old }
+    ensures ends { result ≡ length (refusal_line refusal.now) }
     ensures few { result ≤ 40 }
 {
-    let number = put_bytes(place, 0, b"refused ");
-    let carried = put_number(place, number, u64::from(refusal.number()));
-    let end = put_carried(place, carried, refusal);
-    put_bytes(place, end, b"\n")
+    let mut writer = Writer::new(place);
+    writer.bytes(b"refused");
+    writer.word(refusal.number());
+    writer.carried(refusal);
+    writer.bytes(b"\n");
+    writer.end()
 }
 
 // The line of a refusal as 40 bytes, with byte 10 at its end and zeros after that.

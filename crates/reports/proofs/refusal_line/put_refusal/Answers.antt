@@ -1,36 +1,18 @@
-use Rattle.std.proofs.Common.{◌≤◌, length, codes, decimal, sym, ap, ◌∙◌, arith}
-use Rattle.std.proofs.lemmas.Fmt.{length-decimal-le}
+use Rattle.std.proofs.Common.{◌∷◌, codes, decimal, sym, ap, ◌∙◌, arith}
 use Rattle.model.specs.Refusals.{said}
-use Rattle.reports.proofs.Puts.{puts_then, puts_same}
+use Rattle.reports.specs.Lines.{refusal_line}
+use Rattle.reports.specs.Reports.{at_front}
 use Rattle.reports.proofs.Words.{words_then}
+use Rattle.reports.proofs.Writing.{puts_then, puts_same, front_is, front_end}
 use Rattle.reports.proofs.refusal_line.put_refusal.Goals as goal
-
-pub put_number-carried-requires : goal.put_number-carried-requires
-put_number-carried-requires c =
-    let digits = length-decimal-le 3 c.from.result (omega arith) (omega arith) (omega arith) in
-    omega (arith, c.put_bytes-number.ensures.ends)
-
-pub put_carried-end-requires : goal.put_carried-end-requires
-put_carried-end-requires c =
-    let digits = length-decimal-le 3 c.from.result (omega arith) (omega arith) (omega arith) in
-    omega (arith, c.put_bytes-number.ensures.ends, c.put_number-carried.ensures.ends)
-
-pub put_bytes-requires : goal.put_bytes-requires
-put_bytes-requires c =
-    let digits = length-decimal-le 3 c.from.result (omega arith) (omega arith) (omega arith) in
-    omega (arith, c.put_bytes-number.ensures.ends, c.put_number-carried.ensures.ends, c.put_carried-end.ensures.few)
 
 pub returns : goal.returns
 returns c =
-    let r = c.args.refusal.now in
-    let digits = length-decimal-le 3 c.from.result (omega arith) (omega arith) (omega arith) in
-    let start : 0 ≤ length c.args.place.now = omega arith in
-    let number : c.put_bytes-number.result ≤ length c.put_bytes-number.new.place = omega (arith, c.put_bytes-number.ensures.ends) in
-    let carried : c.put_number-carried.result ≤ length c.put_number-carried.new.place = omega (arith, c.put_bytes-number.ensures.ends, c.put_number-carried.ensures.ends) in
+    let number = puts_same (ap (λ n. 32 ∷ decimal n) c.number.ensures) c.word.ensures.puts in
+    let carried = puts_same (sym (words_then (codes "\n") (said c.args.refusal.now).carried)) (puts_then c.carried.ensures.puts c.bytes-2.ensures) in
+    let line = puts_then c.bytes.ensures (puts_then number carried) in
     record {
-      puts =
-          puts_then start c.put_bytes-number.ensures
-          (puts_then number (puts_same (ap decimal (c.from.ensures ∙ c.number.ensures)) c.put_number-carried.ensures)
-          (puts_same (sym (words_then (codes "\n") (said r).carried)) (puts_then carried c.put_carried-end.ensures.puts c.put_bytes.ensures)));
-      few = omega (arith, c.put_bytes-number.ensures.ends, c.put_number-carried.ensures.ends, c.put_carried-end.ensures.few, c.put_bytes.ensures.ends);
+      holds = front_is c.new-writer.ensures.front line ∙ ap (at_front (refusal_line c.args.refusal.now)) c.new-writer.ensures.place;
+      ends = c.end.ensures ∙ front_end c.new-writer.ensures.front line;
+      few = omega (arith, c.bytes.ensures.ends, c.word.ensures.few, c.carried.ensures.few, c.bytes-2.ensures.ends);
     }

@@ -19,7 +19,7 @@ decreases-put_list l = 2 * (6 - level_under (model l.study.now).components l.par
 abbrev pub invariant-put_list-loop-number : goal.invariant-put_list-loop-number
 invariant-put_list-loop-number l =
     (l.from ≤ count (model l.study))
-    × Puts l.initial.place l.at (lines (model l.study) l.plan (listed_below (model l.study) (entry_of (model l.study)) l.parent l.from)) l.end l.place
+    × Puts l.initial.writer (lines (model l.study) l.plan (listed_below (model l.study) (entry_of (model l.study)) l.parent l.from)) l.writer
 
 abbrev pub decreases-put_list-loop-number : goal.decreases-put_list-loop-number
 decreases-put_list-loop-number l = count (model l.study) - l.from

@@ -1,56 +1,60 @@
-use Rattle.std.proofs.Common.{◌≡◌, ℕ, ◌+◌, ◌*◌, ◌^◌, ◌<◌, ◌≤◌, List, length, ℤ, Ok, sym, ap, ◌∙◌, arith, w64}
+use Rattle.std.proofs.Common.{◌≡◌, ℕ, ◌+◌, ◌*◌, ◌^◌, ◌<◌, ◌≤◌, ◌++◌, List, length, ℤ, Ok, None, sym, ap, ◌∙◌, arith, rules, w64}
 use Rattle.std.specs.Int.Signed.{mag}
 use Rattle.std.proofs.lemmas.Int.{to_z-of_z}
-use Rattle.model.specs.Studies.{Model, model}
+use Rattle.model.specs.Studies.{Model, Limits, model}
 use Rattle.model.proofs.Limited.{limited}
 use Rattle.plans.specs.Questions.{count}
+use Rattle.reports.specs.declared.place.Writer.{Writer}
+use Rattle.reports.specs.LineOrder.{listed, entry_of}
 use Rattle.reports.specs.Lines.{total_line}
-use Rattle.reports.specs.Places.{Puts}
-use Rattle.reports.specs.Reports.{lines, report_text, reported}
+use Rattle.reports.specs.Places.{Room, Puts}
+use Rattle.reports.specs.Reports.{lines, report_text, at_front, reported}
 use Rattle.reports.proofs.Accepted.{accepted}
 use Rattle.reports.proofs.Entries.{order_is}
 use Rattle.reports.proofs.Lengths.{lines_short, total_short}
-use Rattle.reports.proofs.Puts.{puts_then, puts_same, front_is, front_end}
+use Rattle.reports.proofs.Writing.{puts_then, puts_same, front_is, front_end, length_kept}
 use Rattle.reports.proofs.report.report.Goals as goal
 
-pub put_list-end-requires : goal.put_list-end-requires
-put_list-end-requires c =
-    let s = model c.args.study.now in
-    let plan = c.args.plan.now in
-    let limits = limited c.args.study.now in
-    let all = ap length c.components-count.ensures in
-    let short = lines_short s limits plan in
-    let same = ap (λ is. length (lines s plan is)) (order_is s limits) in
-    record { byte_for_each = omega arith; room = omega arith }
+-- the room for a report is room for its lines, and then for its total
+list_room : (s : Model) (limits : Limits s) (plan : List ℕ) (a : Writer) → 16 * count s + 32 ≤ length a.place.now → a.at ≡ 0 → Room a (lines s plan (listed s (entry_of s) None))
+list_room s limits plan a room front =
+    omega (arith, lines_short s limits plan, ap (λ is. length (lines s plan is)) (order_is s limits))
 
-pub put_total-requires : goal.put_total-requires
-put_total-requires c =
-    let s = model c.args.study.now in
-    let plan = c.args.plan.now in
-    let limits = limited c.args.study.now in
+total_room : (s : Model) (limits : Limits s) (plan : List ℕ) (z : ℤ) (a b : Writer) → mag z < 2 ^ 63 → 16 * count s + 32 ≤ length a.place.now → a.at ≡ 0 → Puts a (lines s plan (listed s (entry_of s) None)) b → Room b (total_line z)
+total_room s limits plan z a b few room front puts =
+    let same = length_kept (list_room s limits plan a room front) puts in
+    omega (arith, puts.ends, lines_short s limits plan, ap (λ is. length (lines s plan is)) (order_is s limits), total_short z few)
+
+pub put_list-requires-clause-room : goal.put_list-requires-clause-room
+put_list-requires-clause-room c =
     let all = ap length c.components-count.ensures in
-    let short = lines_short s limits plan in
-    let same = ap (λ is. length (lines s plan is)) (order_is s limits) in
+    let long = ap length c.new-writer.ensures.place in
+    list_room (model c.args.study.now) (limited c.args.study.now) c.args.plan.now c.new-writer.result (omega arith) c.new-writer.ensures.front
+
+pub total-requires : goal.total-requires
+total-requires c =
     let z = c.args.cents in
-    let few : mag z < 2 ^ 63 = c.ranges.cents.sfits in
-    let end = total_short z few in
+    let all = ap length c.components-count.ensures in
+    let long = ap length c.new-writer.ensures.place in
     let total = ap (λ y. length (total_line y)) (to_z-of_z w64 z c.ranges.cents) in
-    omega (arith, c.put_list-end.ensures.ends)
+    let room = total_room (model c.args.study.now) (limited c.args.study.now) c.args.plan.now z c.new-writer.result c.put_list.new.writer c.ranges.cents.sfits (omega arith) c.new-writer.ensures.front c.put_list.ensures in
+    omega arith
 
 -- an accepted call
-answers : (s : Model) (plan : List ℕ) (z : ℤ) (place last : List ℕ) (end : ℕ) → count s ≤ length plan → 16 * count s + 32 ≤ length place → Puts place 0 (report_text s plan z) end last → (Ok end, last) ≡ reported s plan z place
-answers s plan z place last end long room puts =
+answers : (s : Model) (limits : Limits s) (plan : List ℕ) (z : ℤ) (place last : List ℕ) (a b : Writer) (end : ℕ) → count s ≤ length plan → 16 * count s + 32 ≤ length place → a.place.now ≡ place → a.at ≡ 0 → Puts a (lines s plan (listed s (entry_of s) None) ++ total_line z) b → end ≡ b.at → last ≡ b.place.now → (Ok end, last) ≡ reported s plan z place
+answers s limits plan z place last a b end long room same front puts ends holds =
     let text = report_text s plan z in
-    ap (λ n. (Ok n, last)) (front_end puts) ∙ ap (λ l. (Ok (length text), l)) (front_is place text last end puts) ∙ sym (accepted s plan z place long room)
+    let put = puts_same (ap (λ is. lines s plan is ++ total_line z) (sym (order_is s limits))) puts in
+    ap (λ n. (Ok n, last)) (ends ∙ front_end front put)
+    ∙ ap (λ l. (Ok (length text), l)) (holds ∙ front_is front put ∙ ap (at_front text) same)
+    ∙ sym (accepted s plan z place long room)
 
 pub returns : goal.returns
 returns c =
     let s = model c.args.study.now in
     let plan = c.args.plan.now in
-    let limits = limited c.args.study.now in
-    let all = ap length c.components-count.ensures in
     let z = c.args.cents in
-    answers s plan z c.args.place.now c.put_total.new.place c.put_total.result (omega arith) (omega arith)
-    (puts_then (omega arith)
-    (puts_same (ap (lines s plan) (sym (order_is s limits))) c.put_list-end.ensures)
-    (puts_same (ap total_line (to_z-of_z w64 z c.ranges.cents)) c.put_total.ensures))
+    let all = ap length c.components-count.ensures in
+    let total = puts_same (ap total_line (to_z-of_z w64 z c.ranges.cents)) c.total.ensures in
+    let name = sym (c.total.ensures.same_place ∙ c.put_list.ensures.same_place ∙ c.new-writer.ensures.lent) in
+    answers s (limited c.args.study.now) plan z c.args.place.now _ c.new-writer.result c.total.new.self c.end.result (omega arith) (omega arith) c.new-writer.ensures.place c.new-writer.ensures.front (puts_then c.put_list.ensures total) c.end.ensures (search rules)
