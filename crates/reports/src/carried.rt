@@ -35,7 +35,6 @@ impl Writer<'_> {
         requires { HasRoom self.old 5 }
         ensures puts { Puts self.old (codes " " ++ encode sign) self.new }
         ensures few { self.new.at ≤ self.old.at + 5 }
-        ensures fewer { sign < 128 → self.new.at ≤ self.old.at + 2 }
     {
         self.bytes(b" ");
         self.bytes(sign.encode_utf8(&mut [0; 4]).as_bytes());

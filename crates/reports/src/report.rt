@@ -2,10 +2,9 @@
 ghost use Rattle.std.specs.Prelude.{◌≡◌, ◌<◌, ◌≤◌, length};
 ghost use Rattle.model.specs.Studies.{model};
 ghost use Rattle.plans.specs.Questions.{count};
-ghost use Rattle.reports.specs.LineOrder.{listed, entry_of};
 ghost use Rattle.reports.specs.NextUnder.{NextUnder};
 ghost use Rattle.reports.specs.Places.{Room, Puts};
-ghost use Rattle.reports.specs.Reports.{lines, reported};
+ghost use Rattle.reports.specs.Reports.{entry_text, list_text, reported};
 
 use crate::place::Writer;
 use model::refusal::Refusal;
@@ -23,8 +22,8 @@ fn next_under(study: &Study, parent: Option<u8>, from: usize) -> Option<usize>
 #[cycle(put_entry_put_list)]
 fn put_entry(study: &Study, plan: &[u8], number: usize, writer: &mut Writer<'_>)
     requires component_has_byte { (number < count (model study.now)) × (count (model study.now) ≤ length plan.now) }
-    requires room { Room writer.old (lines (model study.now) plan.now (entry_of (model study.now) number)) }
-    ensures { Puts writer.old (lines (model study.now) plan.now (entry_of (model study.now) number)) writer.new }
+    requires room { Room writer.old (entry_text (model study.now) plan.now number) }
+    ensures { Puts writer.old (entry_text (model study.now) plan.now number) writer.new }
 {
     let level = study.components()[number].level;
     writer.line(level, number as u8, plan[number]);
@@ -35,8 +34,8 @@ fn put_entry(study: &Study, plan: &[u8], number: usize, writer: &mut Writer<'_>)
 #[cycle(put_entry_put_list)]
 fn put_list(study: &Study, plan: &[u8], parent: Option<u8>, writer: &mut Writer<'_>)
     requires byte_for_each { count (model study.now) ≤ length plan.now }
-    requires room { Room writer.old (lines (model study.now) plan.now (listed (model study.now) (entry_of (model study.now)) parent)) }
-    ensures { Puts writer.old (lines (model study.now) plan.now (listed (model study.now) (entry_of (model study.now)) parent)) writer.new }
+    requires room { Room writer.old (list_text (model study.now) plan.now parent) }
+    ensures { Puts writer.old (list_text (model study.now) plan.now parent) writer.new }
 {
     let mut from = 0;
     while let Some(number) = next_under(study, parent, from) {

@@ -7,11 +7,11 @@ use Rattle.plans.specs.Postings.{component}
 use Rattle.plans.specs.Questions.{count}
 use Rattle.plans.specs.Starts.{byte}
 use Rattle.reports.specs.declared.place.Writer.{Writer}
-use Rattle.reports.specs.LineOrder.{listed_below, listed, entry_of}
+use Rattle.reports.specs.LineOrder.{listed_below, entry_of}
 use Rattle.reports.specs.Lines.{component_line}
 use Rattle.reports.specs.NextUnder.{NextUnder}
 use Rattle.reports.specs.Places.{Room, Puts}
-use Rattle.reports.specs.Reports.{line, lines}
+use Rattle.reports.specs.Reports.{line, lines, entry_text, list_text}
 use Rattle.reports.proofs.Entries.{level_low, level_high, level_is, entry_is}
 use Rattle.reports.proofs.Listing.{listed_next, listed_all, listed_split}
 use Rattle.reports.proofs.Reading.{read}
@@ -20,20 +20,20 @@ use Rattle.reports.proofs.report.+put_entry_put_list.Goals as goal
 
 module _ (s : Model) (plan : List ℕ) where
   -- an entry's text is its line, and then the list under it
-  entry_text : (limits : Limits s) (i : ℕ) → i < count s → lines s plan (entry_of s i) ≡ line s plan i ++ lines s plan (listed s (entry_of s) (Some i))
-  entry_text limits i h = ap (lines s plan) (entry_is s limits i h)
+  entry_lines : (limits : Limits s) (i : ℕ) → i < count s → entry_text s plan i ≡ line s plan i ++ list_text s plan (Some i)
+  entry_lines limits i h = ap (lines s plan) (entry_is s limits i h)
 
   -- after the entries so far there is room for the next one
-  next_room : {a b : Writer} (p : Option ℕ) (m i : ℕ) → NextUnder s p m (Some i) → Puts a (lines s plan (listed_below s (entry_of s) p m)) b → Room a (lines s plan (listed s (entry_of s) p)) → Room b (lines s plan (entry_of s i))
+  next_room : {a b : Writer} (p : Option ℕ) (m i : ℕ) → NextUnder s p m (Some i) → Puts a (lines s plan (listed_below s (entry_of s) p m)) b → Room a (list_text s plan p) → Room b (entry_text s plan i)
   next_room {a} {b} p m i found puts room =
       let split = listed_split s (entry_of s) p i found.1 found.2 in
       let before = listed_below s (entry_of s) p m in
       let rest = entry_of s i ++ split.0 in
-      let all : lines s plan (listed s (entry_of s) p) ≡ lines s plan before ++ lines s plan rest =
+      let all : list_text s plan p ≡ lines s plan before ++ lines s plan rest =
       ap (lines s plan) (split.1 ∙ ap (λ l. l ++ rest) (listed_all s (entry_of s) p m i found.0 found.3)) ∙ flat_map-append (line s plan) before rest in
       let Fits : List ℕ → Type 0 = λ l. Room a l in
       let after = room_then (lines s plan rest) puts (subst Fits all room) in
-      omega (arith, ap length (flat_map-append (line s plan) (entry_of s i) split.0), length-append (lines s plan (entry_of s i)) (lines s plan split.0))
+      omega (arith, ap length (flat_map-append (line s plan) (entry_of s i) split.0), length-append (entry_text s plan i) (lines s plan split.0))
 
   -- a component's line by the component that the code reads
   line_by : (i : ℕ) {x : Component} → x ≡ component s i → replicate (2 * (x.level - 1)) 32 ++ component_line i (byte plan i) ≡ line s plan i
@@ -54,8 +54,8 @@ put_entry-line-requires-clause-room t c =
     let i = c.args.number in
     let h = c.requires.component_has_byte.0 in
     let text = ap length (line_by s plan i (read s c.components.result.now c.components.ensures i h)) in
-    let both = ap length (entry_text s plan (limited c.args.study.now) i h) in
-    omega (arith, text, both, length-append (line s plan i) (lines s plan (listed s (entry_of s) (Some i))), c.requires.room)
+    let both = ap length (entry_lines s plan (limited c.args.study.now) i h) in
+    omega (arith, text, both, length-append (line s plan i) (list_text s plan (Some i)), c.requires.room)
 
 pub put_entry-put_list-requires : goal.put_entry-put_list-requires
 put_entry-put_list-requires t c =
@@ -67,7 +67,7 @@ put_entry-put_list-requires t c =
     let x = read s c.components.result.now c.components.ensures i h in
     let high = level_high s limits i h in
     let Fits : List ℕ → Type 0 = λ l. Room c.args.writer.now l in
-    (omega arith, (c.requires.component_has_byte.1, room_then (lines s plan (listed s (entry_of s) (Some i))) (puts_same (line_by s plan i x) c.line.ensures) (subst Fits (entry_text s plan limits i h) c.requires.room)))
+    (omega arith, (c.requires.component_has_byte.1, room_then (list_text s plan (Some i)) (puts_same (line_by s plan i x) c.line.ensures) (subst Fits (entry_lines s plan limits i h) c.requires.room)))
 
 pub put_entry-returns : goal.put_entry-returns
 put_entry-returns t c =
@@ -76,7 +76,7 @@ put_entry-returns t c =
     let i = c.args.number in
     let h = c.requires.component_has_byte.0 in
     let x = read s c.components.result.now c.components.ensures i h in
-    puts_same (sym (entry_text s plan (limited c.args.study.now) i h)) (puts_then (puts_same (line_by s plan i x) c.line.ensures) c.put_list.ensures)
+    puts_same (sym (entry_lines s plan (limited c.args.study.now) i h)) (puts_then (puts_same (line_by s plan i x) c.line.ensures) c.put_list.ensures)
 
 pub put_list-put_entry-requires : goal.put_list-put_entry-requires
 put_list-put_entry-requires t c =
@@ -93,7 +93,7 @@ put_list-loop-number-preserved t c =
     let i = c.in-Some.number in
     let m = c.loop-number.from in
     let before = listed_below s (entry_of s) c.args.parent m in
-    let more : lines s plan before ++ lines s plan (entry_of s i) ≡ lines s plan (listed_below s (entry_of s) c.args.parent (i + 1)) =
+    let more : lines s plan before ++ entry_text s plan i ≡ lines s plan (listed_below s (entry_of s) c.args.parent (i + 1)) =
     sym (ap (lines s plan) (listed_next s (entry_of s) c.args.parent m i found.0 found.2 found.3) ∙ flat_map-append (line s plan) before (entry_of s i)) in
     (omega (arith, found.1), puts_same more (puts_then c.loop-number.invariant.1 c.put_entry.ensures))
 

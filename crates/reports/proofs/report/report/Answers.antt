@@ -5,10 +5,9 @@ use Rattle.model.specs.Studies.{Model, Limits, model}
 use Rattle.model.proofs.Limited.{limited}
 use Rattle.plans.specs.Questions.{count}
 use Rattle.reports.specs.declared.place.Writer.{Writer}
-use Rattle.reports.specs.LineOrder.{listed, entry_of}
 use Rattle.reports.specs.Lines.{total_line}
 use Rattle.reports.specs.Places.{Room, Puts}
-use Rattle.reports.specs.Reports.{lines, report_text, at_front, reported}
+use Rattle.reports.specs.Reports.{lines, list_text, report_text, at_front, reported}
 use Rattle.reports.proofs.Accepted.{accepted}
 use Rattle.reports.proofs.Entries.{order_is}
 use Rattle.reports.proofs.Lengths.{lines_short, total_short}
@@ -16,11 +15,11 @@ use Rattle.reports.proofs.Writing.{puts_then, puts_same, front_is, front_end, le
 use Rattle.reports.proofs.report.report.Goals as goal
 
 -- the room for a report is room for its lines, and then for its total
-list_room : (s : Model) (limits : Limits s) (plan : List ℕ) (a : Writer) → 16 * count s + 32 ≤ length a.place.now → a.at ≡ 0 → Room a (lines s plan (listed s (entry_of s) None))
+list_room : (s : Model) (limits : Limits s) (plan : List ℕ) (a : Writer) → 16 * count s + 32 ≤ length a.place.now → a.at ≡ 0 → Room a (list_text s plan None)
 list_room s limits plan a room front =
     omega (arith, lines_short s limits plan, ap (λ is. length (lines s plan is)) (order_is s limits))
 
-total_room : (s : Model) (limits : Limits s) (plan : List ℕ) (z : ℤ) (a b : Writer) → mag z < 2 ^ 63 → 16 * count s + 32 ≤ length a.place.now → a.at ≡ 0 → Puts a (lines s plan (listed s (entry_of s) None)) b → Room b (total_line z)
+total_room : (s : Model) (limits : Limits s) (plan : List ℕ) (z : ℤ) (a b : Writer) → mag z < 2 ^ 63 → 16 * count s + 32 ≤ length a.place.now → a.at ≡ 0 → Puts a (list_text s plan None) b → Room b (total_line z)
 total_room s limits plan z a b few room front puts =
     let same = length_kept (list_room s limits plan a room front) puts in
     omega (arith, puts.ends, lines_short s limits plan, ap (λ is. length (lines s plan is)) (order_is s limits), total_short z few)
@@ -41,7 +40,7 @@ total-requires c =
     omega arith
 
 -- an accepted call
-answers : (s : Model) (limits : Limits s) (plan : List ℕ) (z : ℤ) (place last : List ℕ) (a b : Writer) (end : ℕ) → count s ≤ length plan → 16 * count s + 32 ≤ length place → a.place.now ≡ place → a.at ≡ 0 → Puts a (lines s plan (listed s (entry_of s) None) ++ total_line z) b → end ≡ b.at → last ≡ b.place.now → (Ok end, last) ≡ reported s plan z place
+answers : (s : Model) (limits : Limits s) (plan : List ℕ) (z : ℤ) (place last : List ℕ) (a b : Writer) (end : ℕ) → count s ≤ length plan → 16 * count s + 32 ≤ length place → a.place.now ≡ place → a.at ≡ 0 → Puts a (list_text s plan None ++ total_line z) b → end ≡ b.at → last ≡ b.place.now → (Ok end, last) ≡ reported s plan z place
 answers s limits plan z place last a b end long room same front puts ends holds =
     let text = report_text s plan z in
     let put = puts_same (ap (λ is. lines s plan is ++ total_line z) (sym (order_is s limits))) puts in
