@@ -1,8 +1,7 @@
 -- The levels within entries and lists: nothing there is of a level above the entry's own.
-use Rattle.std.proofs.Common.{◌≡◌, ℕ, zero, suc, ◌<◌, ◌≤◌, true, cond, List, [], Some, Option, sym, ap, subst, inl, inr, arith}
+use Rattle.std.proofs.Common.{◌≡◌, ℕ, zero, suc, ◌<◌, ◌≤◌, true, List, Some, Option, arith}
 use Rattle.std.specs.List.{AllByRecursion}
 use Rattle.std.proofs.ByRecursion.{All-append, All-weaker}
-use Rattle.std.proofs.lemmas.Bool.{cases_Bool}
 use Rattle.model.specs.Components.{level_under}
 use Rattle.model.specs.Studies.{Model, Limits}
 use Rattle.plans.specs.Questions.{count}
@@ -18,13 +17,7 @@ all_upto P f (suc n) each = All-append P (upto f n) (f n) (all_upto P f n (λ k 
 module _ (s : Model) (limits : Limits s) where
   -- entries that are deep enough make a list that is
   list_deep : (m : ℕ) (f : ℕ → List ℕ) (p : Option ℕ) (n : ℕ) → n ≤ count s → ((j : ℕ) → j < n → is_under s p j ≡ true → AllByRecursion (λ x. m ≤ level s x) (f j)) → AllByRecursion (λ x. m ≤ level s x) (listed_below s f p n)
-  list_deep m f p n l each =
-      let Deep : List ℕ → Type 0 = AllByRecursion (λ x. m ≤ level s x) in
-      all_upto (λ x. m ≤ level s x) _ n (λ j b.
-      elim (cases_Bool (is_under s p j)) [
-        | inl u ↦ subst Deep (sym (ap (λ t. cond t (f j) []) u)) (each j b u)
-        | inr o ↦ subst Deep (sym (ap (λ t. cond t (f j) []) o)) tt
-      ])
+  list_deep m f p n l each = all_upto (λ x. m ≤ level s x) _ n (λ j b. grind (arith, each j b))
 
   entry_deep : (left k : ℕ) → k < count s → AllByRecursion (λ x. level s k ≤ level s x) (entry s left k)
   unfolding entry

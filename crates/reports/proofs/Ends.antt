@@ -2,7 +2,6 @@
 use Rattle.std.proofs.Common.{◌≡◌, ℕ, ◌^◌, ◌<◌, ◌≤◌, Bool, true, not, ◌&&◌, eqb, List, [], ◌∷◌, ◌++◌, decimal, sym, refl, ap, ◌∙◌, append_assoc, arith}
 use Rattle.std.specs.List.{AllByRecursion}
 use Rattle.std.proofs.ByRecursion.{All-append, All-weaker}
-use Rattle.std.proofs.lemmas.Bool.{and_parts, eqb-false, not-true}
 use Rattle.reports.specs.LineEnds.{EndsOnce}
 use Rattle.reports.proofs.Splits.{split_same, digits}
 
@@ -16,9 +15,7 @@ none_ten (b ∷ bs) = not (eqb b 10) && none_ten bs
 
 pub all_not_ten : (bs : List ℕ) → none_ten bs ≡ true → AllByRecursion NotTen bs
 all_not_ten [] h = tt
-all_not_ten (b ∷ bs) h =
-    let parts = and_parts (not (eqb b 10)) (none_ten bs) h in
-    (eqb-false b 10 (not-true (eqb b 10) parts.0), all_not_ten bs parts.1)
+all_not_ten (b ∷ bs) h = grind (arith, all_not_ten bs)
 
 pub digits_not_ten : (n : ℕ) → n < 2 ^ 64 → AllByRecursion NotTen (decimal n)
 digits_not_ten n fits = All-weaker (λ b. (48 ≤ b) × (b ≤ 57)) NotTen (λ b d e. let low = d.0 in omega arith) (decimal n) (digits n fits)

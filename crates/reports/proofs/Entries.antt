@@ -1,6 +1,5 @@
 -- Entries and lists of a study within its limits: an entry is its component and the list under it.
-use Rattle.std.proofs.Common.{◌≡◌, ℕ, zero, suc, ◌+◌, ◌-◌, ◌<◌, ◌≤◌, true, false, cond, List, [], ◌∷◌, Some, None, Option, sym, refl, ap, ◌∙◌, inl, inr, arith}
-use Rattle.std.proofs.lemmas.Bool.{eqb-true, cases_Bool, both_ways}
+use Rattle.std.proofs.Common.{◌≡◌, ℕ, zero, suc, ◌+◌, ◌-◌, ◌<◌, ◌≤◌, true, List, ◌∷◌, Some, None, Option, sym, ap, ◌∙◌, arith}
 use Rattle.std.specs.Option.{option_eq}
 use Rattle.std.specs.Prelude.{nat_eq}
 use Rattle.model.specs.declared.component.Component.{Component}
@@ -13,18 +12,14 @@ use Rattle.reports.specs.LineOrder.{is_under, listed, entry, entry_of, order}
 use Rattle.reports.proofs.Ranges.{upto_same, upto_skip}
 
 pub option_eq_true : (a b : Option ℕ) → option_eq nat_eq a b ≡ true → a ≡ b
-option_eq_true None None h = refl
-option_eq_true None (Some p) h = absurd (both_ways false refl h)
-option_eq_true (Some q) None h = absurd (both_ways false refl h)
-option_eq_true (Some q) (Some p) h = ap Some (eqb-true q p h)
+option_eq_true a b h = grind arith
 
 -- the indenture level of a component
 abbrev pub level : Model → ℕ → ℕ
 level s i = (component s i).level
 
 under_low : (cs : List Component) (p : Option ℕ) → 1 ≤ level_under cs p
-under_low cs None = omega arith
-under_low cs (Some p) = omega arith
+under_low cs p = grind arith
 
 module _ (s : Model) (limits : Limits s) where
   -- a component under p is one level deeper
@@ -39,21 +34,12 @@ module _ (s : Model) (limits : Limits s) where
 
   -- two lists under p are equal if they have equal entries for the components there
   pub listed_same : (f g : ℕ → List ℕ) (p : Option ℕ) → ((k : ℕ) → k < count s → is_under s p k ≡ true → f k ≡ g k) → listed s f p ≡ listed s g p
-  listed_same f g p same =
-      upto_same _ _ (count s) (λ k h.
-      elim (cases_Bool (is_under s p k)) [
-        | inl u ↦ ap (λ l. cond (is_under s p k) l []) (same k h u)
-        | inr n ↦ ap (λ b. cond b (f k) []) n ∙ ap (λ b. cond b (g k) []) (sym n)
-      ])
+  listed_same f g p same = upto_same _ _ (count s) (λ k h. grind (arith, same k h))
 
   pub entry_step : (left i : ℕ) → i < count s → level s i + left ≡ 5 → entry s left i ≡ i ∷ listed s (entry_of s) (Some i)
   unfolding entry
   entry_step zero i h e =
-      ap (λ l. i ∷ l) (sym (upto_skip _ 0 (count s) (omega arith) (λ k low high.
-      elim (cases_Bool (is_under s (Some i) k)) [
-        | inl u ↦ let deep = level_is (Some i) k high u in let few = level_high k high in absurd (omega arith)
-        | inr n ↦ ap (λ b. cond b (entry_of s k) []) n
-      ])))
+      ap (λ l. i ∷ l) (sym (upto_skip _ 0 (count s) (omega arith) (λ k low high. grind (arith, level_is (Some i) k high, level_high k high))))
   entry_step (suc left) i h e =
       ap (λ l. i ∷ l) (listed_same (entry s left) (entry_of s) (Some i) (λ k b u.
       let deep = level_is (Some i) k b u in

@@ -1,15 +1,14 @@
 -- How long the lines of a report are, and the report.
-use Rattle.std.proofs.Common.{ℕ, ◌+◌, ◌*◌, ◌^◌, ◌<◌, ◌≤◌, ◌&&◌, leb, List, [], ◌∷◌, length, replicate, ℤ, Some, None, decimal, arith, length-append}
+use Rattle.std.proofs.Common.{ℕ, ◌+◌, ◌*◌, ◌^◌, ◌<◌, ◌≤◌, List, [], ◌∷◌, length, replicate, ℤ, decimal, arith, length-append}
 use Rattle.std.specs.Int.Signed.{mag}
 use Rattle.std.specs.Fmt.{signed_decimal}
 use Rattle.std.proofs.lemmas.Fmt.{length-decimal-le, length_signed_le}
 use Rattle.std.proofs.lemmas.List.{length-replicate}
 use Rattle.std.proofs.lemmas.List.Concat.{length-flat_map}
-use Rattle.std.proofs.lemmas.Bool.{cond_both, and_parts, leb-true}
 use Rattle.model.specs.Studies.{Model, Limits}
 use Rattle.plans.specs.Questions.{count}
-use Rattle.plans.specs.Starts.{byte, final}
-use Rattle.planning.specs.Decisions.{decided, option_number}
+use Rattle.plans.specs.Starts.{byte}
+use Rattle.planning.specs.Decisions.{decided}
 use Rattle.reports.specs.LineOrder.{order}
 use Rattle.reports.specs.Lines.{decision_text, component_line, total_line}
 use Rattle.reports.specs.Reports.{indent, line, lines, report_text}
@@ -19,14 +18,7 @@ use Rattle.reports.proofs.Weights.{order_weight}
 
 -- at most 3 bytes: the letter, a digit and byte 10
 decision_short : (b : ℕ) → length (decision_text (decided b) (10 ∷ [])) ≤ 3
-decision_short b =
-    cond_both (leb 1 b && leb b 8) (Some (final b, option_number b)) None (λ d. length (decision_text d (10 ∷ [])) ≤ 3)
-    (λ h.
-    let few : b ≤ 8 = leb-true b 8 (and_parts (leb 1 b) (leb b 8) h).1 in
-    let one : final b < 10 = omega arith in
-    let digit = length-decimal-le 1 (final b) (omega arith) one (omega arith) in
-    omega (arith, length-append (decimal (final b)) (10 ∷ [])))
-    (λ h. omega arith)
+decision_short b = grind (arith, length-append, length-decimal-le 1)
 
 module _ (s : Model) (limits : Limits s) (plan : List ℕ) where
   -- a line: at most 8 blanks, 2 digits, a blank, a letter, a digit and byte 10

@@ -1,5 +1,5 @@
 -- The lines of a report: byte 10 stands in each once, at its end.
-use Rattle.std.proofs.Common.{ℕ, zero, suc, ◌^◌, ◌<◌, ◌≤◌, ◌&&◌, eqb, leb, List, [], ◌∷◌, replicate, ℤ, pos, negsuc, Some, None, codes, decimal, refl, arith}
+use Rattle.std.proofs.Common.{ℕ, zero, suc, ◌^◌, ◌<◌, ◌≤◌, ◌&&◌, leb, List, [], ◌∷◌, replicate, ℤ, pos, negsuc, Some, None, codes, decimal, refl, arith}
 use Rattle.std.specs.Int.Signed.{mag}
 use Rattle.std.specs.List.{AllByRecursion}
 use Rattle.std.specs.Fmt.{signed_decimal}
@@ -18,7 +18,7 @@ blanks_not_ten zero = tt
 blanks_not_ten (suc n) = ((λ e. omega arith), blanks_not_ten n)
 
 letter_not_ten : (o : ℕ) → NotTen (choice_letter o)
-letter_not_ten o = cond_both (eqb o 0) 68 82 NotTen (λ h e. omega arith) (λ h e. omega arith)
+letter_not_ten o e = grind arith
 
 decision_ends : (b : ℕ) → EndsOnce (decision_text (decided b) (10 ∷ []))
 decision_ends b =

@@ -15,8 +15,7 @@ split_same P (x ∷ xs) (y ∷ ys) a b p q na nb e =
     let head : x ≡ y = cc in
     let tail : xs ++ a ≡ ys ++ b = cc in
     let rest = split_same P xs ys a b p.1 q.1 na nb tail in
-    let lists = rest.0 in
-    (cc, rest.1)
+    (cc rest.0, rest.1)
 
 -- the bytes of a number in decimal digits
 pub digits : (n : ℕ) → n < 2 ^ 64 → AllByRecursion (λ b. (48 ≤ b) × (b ≤ 57)) (decimal n)

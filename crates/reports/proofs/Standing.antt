@@ -1,6 +1,6 @@
 -- Where each list stands in the order of the lines.
-use Rattle.std.proofs.Common.{◌≡◌, ℕ, zero, suc, ◌<◌, ◌≤◌, true, List, [], ◌∷◌, ◌++◌, Some, None, Option, sym, refl, ap, ◌∙◌, append_assoc, append-nil, arith}
-use Rattle.std.proofs.lemmas.Bool.{ltb-true, lt-ltb}
+use Rattle.std.proofs.Common.{◌≡◌, ℕ, zero, suc, ◌<◌, ◌≤◌, true, List, [], ◌∷◌, ◌++◌, Some, None, Option, sym, ap, ◌∙◌, append_assoc, append-nil, arith}
+use Rattle.std.proofs.lemmas.Bool.{ltb-true}
 use Rattle.std.specs.Cmp.Lexicographic.{options_equiv}
 use Rattle.std.proofs.lemmas.Cmp.{nat_eq_equiv}
 use Rattle.model.specs.Components.{is_entered}
@@ -12,8 +12,7 @@ use Rattle.reports.proofs.Entries.{entry_is, order_is}
 use Rattle.reports.proofs.Listing.{listed_split}
 
 pub entered_more : (m n : ℕ) (o : Option ℕ) → m ≤ n → is_entered m o ≡ true → is_entered n o ≡ true
-entered_more m n None l h = refl
-entered_more m n (Some p) l h = lt-ltb p n (omega (arith, ltb-true p m h))
+entered_more m n o l h = grind arith
 
 -- what stands in front of a list: its parent, and nothing in front of the list of the top components
 abbrev pub heading : Option ℕ → List ℕ

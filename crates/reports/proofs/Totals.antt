@@ -1,7 +1,6 @@
 -- Sums over the numbers below n.
-use Rattle.std.proofs.Common.{◌≡◌, ℕ, zero, suc, ◌+◌, ◌*◌, ◌<◌, ◌≤◌, cond, eqb, List, [], ◌∷◌, length, sum_by, refl, ap, ◌∙◌, inl, inr, mul-suc, arith}
+use Rattle.std.proofs.Common.{◌≡◌, ℕ, zero, suc, ◌+◌, ◌*◌, ◌<◌, ◌≤◌, cond, eqb, List, [], ◌∷◌, length, sum_by, refl, ap, ◌∙◌, mul-suc, arith}
 use Rattle.std.proofs.lemmas.List.Sums.{sum_by-cons, sum_by-append}
-use Rattle.std.proofs.lemmas.Bool.{cases_eq, eq-eqb, ne_eqb}
 use Rattle.plans.specs.Ranges.{upto}
 
 -- f 0 + f 1 + .. + f (n - 1)
@@ -45,20 +44,11 @@ total_swap f n (suc m) = total_add (λ i. total (f i) m) (λ i. f i m) n ∙ ap 
 
 -- one number below n is p, and none if p is not below n
 pub total_out : (p x n : ℕ) → n ≤ p → total (λ i. cond (eqb p i) x 0) n ≡ 0
-total_out p x n h =
-    total_zero _ n (λ k b. ap (λ t. cond t x 0) (ne_eqb p k (λ e. omega arith)))
+total_out p x n h = total_zero _ n (λ k b. grind arith)
 
 pub total_at : (p x n : ℕ) → p < n → total (λ i. cond (eqb p i) x 0) n ≡ x
 total_at p x zero h = absurd (omega arith)
-total_at p x (suc n) h =
-    elim (cases_eq p n) [
-      | inl e ↦ let here = ap (λ t. cond t x 0) (eq-eqb p n e) in let below = total_out p x n (omega arith) in omega arith
-      | inr ne ↦
-          let less : p < n = omega arith in
-          let here = ap (λ t. cond t x 0) (ne_eqb p n ne) in
-          let below = total_at p x n less in
-          omega arith
-    ]
+total_at p x (suc n) h = grind (arith, total_at p x n, total_out p x n)
 
 -- the weight of a list that is made number by number
 pub weight_upto : (w : ℕ → ℕ) (f : ℕ → List ℕ) (n : ℕ) → sum_by w (upto f n) ≡ total (λ k. sum_by w (f k)) n

@@ -31,10 +31,10 @@ no_letter n c a b fits low high e =
 
 pub words_same : (ws vs : List Word) → AllByRecursion Plain ws → AllByRecursion Plain vs → words ws (10 ∷ []) ≡ words vs (10 ∷ []) → ws ≡ vs
 words_same [] [] p q e = refl
-words_same [] (num n ∷ vs) p q e = let z : ◌≡◌ {A = ℕ} 10 32 = cc in absurd (omega arith)
-words_same [] (sign c ∷ vs) p q e = let z : ◌≡◌ {A = ℕ} 10 32 = cc in absurd (omega arith)
-words_same (num n ∷ ws) [] p q e = let z : ◌≡◌ {A = ℕ} 32 10 = cc in absurd (omega arith)
-words_same (sign c ∷ ws) [] p q e = let z : ◌≡◌ {A = ℕ} 32 10 = cc in absurd (omega arith)
+words_same [] (num n ∷ vs) p q e = grind arith
+words_same [] (sign c ∷ vs) p q e = grind arith
+words_same (num n ∷ ws) [] p q e = grind arith
+words_same (sign c ∷ ws) [] p q e = grind arith
 words_same (num m ∷ ws) (num n ∷ vs) p q e =
     let small = p.0 in
     let little = q.0 in
