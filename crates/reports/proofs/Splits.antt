@@ -4,13 +4,10 @@ use Rattle.std.specs.List.{AllByRecursion}
 use Rattle.std.proofs.lemmas.Fmt.{decimal_by_steps, decimal_injective}
 use Rattle.std.proofs.ByRecursion.{All-append}
 
-first_of : (a b : List ℕ) → a ≡ b → get_or a 0 0 ≡ get_or b 0 0
-first_of a b e = ap (λ l. get_or l 0 0) e
-
 pub split_same : (P : ℕ → Type 0) (xs ys a b : List ℕ) → AllByRecursion P xs → AllByRecursion P ys → (P (get_or a 0 0) → ⊥) → (P (get_or b 0 0) → ⊥) → xs ++ a ≡ ys ++ b → (xs ≡ ys) × (a ≡ b)
 split_same P [] [] a b p q na nb e = (refl, e)
-split_same P [] (y ∷ ys) a b p q na nb e = absurd (na (subst P (sym (first_of a (y ∷ (ys ++ b)) e)) q.0))
-split_same P (x ∷ xs) [] a b p q na nb e = absurd (nb (subst P (first_of (x ∷ (xs ++ a)) b e) p.0))
+split_same P [] (y ∷ ys) a b p q na nb e = absurd (na (subst P (sym (ap (λ l. get_or l 0 0) e)) q.0))
+split_same P (x ∷ xs) [] a b p q na nb e = absurd (nb (subst P (ap (λ l. get_or l 0 0) e) p.0))
 split_same P (x ∷ xs) (y ∷ ys) a b p q na nb e =
     let head : x ≡ y = cc in
     let tail : xs ++ a ≡ ys ++ b = cc in
