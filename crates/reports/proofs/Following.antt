@@ -20,12 +20,6 @@ use Rattle.reports.proofs.Listing.{listed_split}
 use Rattle.reports.proofs.Ranges.{upto_split}
 use Rattle.reports.proofs.Standing.{entered_more, heading, list_stands}
 
-after_parent : (a u m r b : List ℕ) (p i : ℕ) → a ++ ((p ∷ []) ++ ((u ++ ((i ∷ m) ++ r)) ++ b)) ≡ a ++ p ∷ (u ++ i ∷ (m ++ (r ++ b)))
-after_parent a u m r b p i = simp append_assoc
-
-after_lower : (a h u m y n r b : List ℕ) (i j : ℕ) → a ++ (h ++ (((u ++ ((i ∷ m) ++ y)) ++ ((j ∷ n) ++ r)) ++ b)) ≡ (a ++ (h ++ u)) ++ i ∷ ((m ++ y) ++ j ∷ (n ++ (r ++ b)))
-after_lower a h u m y n r b i j = simp append_assoc
-
 all_right : (P : ℕ → Type 0) (xs ys : List ℕ) → AllByRecursion P (xs ++ ys) → AllByRecursion P ys
 all_right P [] ys h = h
 all_right P (x ∷ xs) ys h = all_right P xs ys h.1
@@ -50,8 +44,7 @@ module _ (s : Model) (limits : Limits s) where
         between = front;
         after = rest ++ (split.0 ++ r.1.0);
         all =
-            r.1.1 ∙ ap (λ x. r.0 ++ ((p ∷ []) ++ (x ++ r.1.0))) (split.1 ∙ ap (λ x. front ++ (x ++ split.0)) (entry_is s limits i h))
-            ∙ after_parent r.0 front rest split.0 r.1.0 p i;
+            simp (r.1.1, split.1, entry_is s limits i h, append_assoc);
         only = below_deep s limits (Some p) i (omega arith);
       }
 
@@ -72,7 +65,7 @@ module _ (s : Model) (limits : Limits s) where
       let mine = listed s (entry_of s) (Some i) in
       let theirs = listed s (entry_of s) (Some j) in
       let cut : listed_below s (entry_of s) o j ≡ front ++ ((i ∷ mine) ++ part.0) =
-      part.1 ∙ ap (λ t. front ++ (cond t (entry_of s i) [] ++ part.0)) (under_it i o e) ∙ ap (λ x. front ++ (x ++ part.0)) (entry_is s limits i inside) in
+      simp (part.1, under_it i o e, entry_is s limits i inside) in
       let Deep : List ℕ → Type 0 = AllByRecursion (λ k. level_under s.components o ≤ level s k) in
       let deep = level_is s limits o i inside (under_it i o e) in
       let only = (all_right _ front ((i ∷ mine) ++ part.0) (subst Deep cut (below_deep s limits o j (omega arith)))).1 in
@@ -81,8 +74,6 @@ module _ (s : Model) (limits : Limits s) where
         between = mine ++ part.0;
         after = theirs ++ (split.0 ++ r.1.0);
         all =
-            r.1.1
-            ∙ ap (λ x. r.0 ++ (heading o ++ (x ++ r.1.0))) (split.1 ∙ ap (λ x. x ++ (entry_of s j ++ split.0)) cut ∙ ap (λ x. (front ++ ((i ∷ mine) ++ part.0)) ++ (x ++ split.0)) (entry_is s limits j h))
-            ∙ after_lower r.0 (heading o) front mine part.0 theirs split.0 r.1.0 i j;
+            simp (r.1.1, split.1, cut, entry_is s limits j h, append_assoc);
         only = All-weaker (λ k. level_under s.components o ≤ level s k) (λ k. level s i ≤ level s k) (λ k d. omega arith) (mine ++ part.0) only;
       }

@@ -1,5 +1,5 @@
 -- Where each list stands in the order of the lines.
-use Rattle.std.proofs.Common.{◌≡◌, ℕ, zero, suc, ◌<◌, ◌≤◌, true, List, [], ◌∷◌, ◌++◌, Some, None, Option, sym, ap, ◌∙◌, append_assoc, append-nil, arith}
+use Rattle.std.proofs.Common.{◌≡◌, ℕ, zero, suc, ◌<◌, ◌≤◌, true, List, [], ◌∷◌, ◌++◌, Some, None, Option, sym, ◌∙◌, append_assoc, append-nil, arith}
 use Rattle.std.proofs.lemmas.Bool.{ltb-true}
 use Rattle.std.specs.Cmp.Lexicographic.{options_equiv}
 use Rattle.std.proofs.lemmas.Cmp.{nat_eq_equiv}
@@ -19,9 +19,6 @@ abbrev pub heading : Option ℕ → List ℕ
 heading None = []
 heading (Some p) = p ∷ []
 
-regrouped : (a h u m r b : List ℕ) (q : ℕ) → a ++ (h ++ ((u ++ ((q ∷ m) ++ r)) ++ b)) ≡ (a ++ (h ++ u)) ++ (q ∷ (m ++ (r ++ b)))
-regrouped a h u m r b q = simp append_assoc
-
 module _ (s : Model) (limits : Limits s) where
   -- the list under o, with its heading, somewhere in the order
   pub list_stands : (m : ℕ) (o : Option ℕ) → is_entered m o ≡ true → m ≤ count s → (a : List ℕ) × ((b : List ℕ) × (order s ≡ a ++ (heading o ++ (listed s (entry_of s) o ++ b))))
@@ -37,8 +34,6 @@ module _ (s : Model) (limits : Limits s) where
         r.0 ++ (heading o ++ front),
         (
           split.0 ++ r.1.0,
-          r.1.1
-              ∙ ap (λ x. r.0 ++ (heading o ++ (x ++ r.1.0))) (split.1 ∙ ap (λ x. front ++ (x ++ split.0)) (entry_is s limits q inside))
-              ∙ regrouped r.0 (heading o) front (listed s (entry_of s) (Some q)) split.0 r.1.0 q,
+          simp (r.1.1, split.1, entry_is s limits q inside, append_assoc),
         ),
       )

@@ -1,5 +1,5 @@
 -- Every component stands once in the order of the lines: any weight over the order is the weight over the numbers below n.
-use Rattle.std.proofs.Common.{◌≡◌, ℕ, ◌+◌, ◌<◌, Bool, true, cond, List, [], Some, None, sum_by, Option, sym, ap, ◌∙◌, arith}
+use Rattle.std.proofs.Common.{◌≡◌, ℕ, ◌+◌, ◌<◌, true, cond, Some, None, sum_by, Option, sym, ap, ◌∙◌, arith}
 use Rattle.std.proofs.lemmas.List.Sums.{sum_by-cons}
 use Rattle.std.specs.Option.{option_eq}
 use Rattle.std.specs.Prelude.{nat_eq}
@@ -11,9 +11,6 @@ use Rattle.reports.specs.LineOrder.{is_under, listed, entry_of, order}
 use Rattle.reports.proofs.Entries.{entry_is, order_is}
 use Rattle.reports.proofs.Totals.{total, total_same, total_zero, total_add, total_swap, total_at, weight_upto}
 
-weight_cond : (w : ℕ → ℕ) (b : Bool) (xs : List ℕ) → sum_by w (cond b xs []) ≡ cond b (sum_by w xs) 0
-weight_cond w b xs = grind arith
-
 -- a component stands under one parent, which was entered before it, or it is a top component
 one_parent : (q : Option ℕ) (k n x : ℕ) → k < n → is_entered k q ≡ true → x ≡ cond (option_eq nat_eq q None) x 0 + total (λ i. cond (option_eq nat_eq q (Some i)) x 0) n
 one_parent None k n x l h = grind (arith, total_zero (λ i. 0) n)
@@ -21,7 +18,7 @@ one_parent (Some p) k n x l h = grind (arith, total_at p x n)
 
 module _ (s : Model) (limits : Limits s) (w : ℕ → ℕ) where
   list_weight : (p : Option ℕ) → sum_by w (listed s (entry_of s) p) ≡ total (λ k. cond (is_under s p k) (sum_by w (entry_of s k)) 0) (count s)
-  list_weight p = weight_upto w _ (count s) ∙ total_same _ _ (count s) (λ k h. weight_cond w (is_under s p k) (entry_of s k))
+  list_weight p = weight_upto w _ (count s) ∙ total_same _ _ (count s) (λ k h. grind arith)
 
   -- the entries of all components, list by list
   by_lists : total (λ k. sum_by w (entry_of s k)) (count s) ≡ sum_by w (listed s (entry_of s) None) + total (λ i. sum_by w (listed s (entry_of s) (Some i))) (count s)

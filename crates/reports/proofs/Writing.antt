@@ -1,6 +1,6 @@
 -- Texts that are put into a place one after another.
-use Rattle.std.proofs.Common.{◌≡◌, ℕ, List, [], ◌++◌, length, drop, sym, refl, ap, ◌∙◌, subst, add-zero, append-nil, zero-add, arith, length-append}
-use Rattle.std.proofs.lemmas.List.Edits.{paste-paste, paste_none, paste_all, length-paste}
+use Rattle.std.proofs.Common.{◌≡◌, ℕ, List, [], ◌++◌, length, drop, sym, refl, ap, ◌∙◌, subst, append-nil, zero-add, arith, length-append}
+use Rattle.std.proofs.lemmas.List.Edits.{paste-paste, paste_all, length-paste}
 use Rattle.std.proofs.Math.Seq.{paste}
 use Rattle.reports.specs.declared.place.Writer.{Writer}
 use Rattle.reports.specs.Places.{Room, put, Puts}
@@ -25,10 +25,6 @@ puts_same {a} {b} e p = subst (λ x. Puts a x b) e p
 -- the last of several texts, with nothing after it
 pub puts_last : {a b : Writer} {s : List ℕ} → Puts a s b → Puts a (s ++ []) b
 puts_last {a} {b} {s} p = puts_same (sym (append-nil s)) p
-
--- no text leaves the place as it was
-pub puts_none : (a : Writer) → Puts a [] a
-puts_none a = record { ends = sym (add-zero a.at); holds = paste_none a.place.now a.at []; same_place = refl }
 
 -- a place keeps its length, so what there was room for after the text still has it
 pub length_kept : {a b : Writer} {s : List ℕ} → Room a s → Puts a s b → length b.place.now ≡ length a.place.now

@@ -1,5 +1,5 @@
 // What a refusal carries, put into a place as words: numbers and signs, each after a blank.
-ghost use Rattle.std.specs.Prelude.{◌≡◌, ◌+◌, ◌<◌, ◌≤◌, [], ◌++◌, codes};
+ghost use Rattle.std.specs.Prelude.{◌≡◌, ◌+◌, ◌≤◌, [], ◌++◌, codes};
 ghost use Rattle.std.proofs.Math.Utf8.{encode};
 ghost use Rattle.model.specs.declared.refusal.Refusal.TheVariants.{BookFault};
 ghost use Rattle.model.specs.Refusals.{said, asked, cause_number};

@@ -33,6 +33,7 @@ pub fn refusal_bytes(refusal: &Refusal) -> [u8; 40]
 }
 
 // The line of a refusal, with byte 10 at its end.
+// Stays: (d) the bytes are those that `refusal_bytes` puts with no heap; a `Display` for `format!` would say them twice.
 pub fn refusal_line(heap: Global, refusal: &Refusal) -> Result<Vec<u8>, AllocError>
     ensures { IfOk result (λ line. line.items ≡ refusal_line refusal.now) }
 {

@@ -37,6 +37,7 @@ fn put_list(study: &Study, plan: &[u8], parent: Option<u8>, writer: &mut Writer<
     requires room { Room writer.old (list_text (model study.now) plan.now parent) }
     ensures { Puts writer.old (list_text (model study.now) plan.now parent) writer.new }
 {
+    // Stays: (a) entry and list calling each other, and the next component as an `Option`, are named forms.
     let mut from = 0;
     while let Some(number) = next_under(study, parent, from) {
         put_entry(study, plan, number, writer);

@@ -14,5 +14,5 @@ returns c =
     record {
       holds = front_is c.new-writer.ensures.front line ∙ ap (at_front (refusal_line c.args.refusal.now)) c.new-writer.ensures.place;
       ends = c.end.ensures ∙ front_end c.new-writer.ensures.front line;
-      few = omega (arith, c.bytes.ensures.ends, c.word.ensures.few, c.carried.ensures.few, c.bytes-2.ensures.ends);
+      few = omega arith;
     }
