@@ -1,4 +1,3 @@
-pub mod Accepted
 pub mod Depths
 pub mod Ends
 pub mod Entries

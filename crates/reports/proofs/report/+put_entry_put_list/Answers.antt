@@ -30,7 +30,7 @@ module _ (s : Model) (plan : List ℕ) where
       let before = listed_below s (entry_of s) p m in
       let rest = entry_of s i ++ split.0 in
       let all : list_text s plan p ≡ lines s plan before ++ lines s plan rest =
-      ap (lines s plan) (split.1 ∙ ap (λ l. l ++ rest) (listed_all s (entry_of s) p m i found.0 found.3)) ∙ flat_map-append (line s plan) before rest in
+      simp (split.1, listed_all s (entry_of s) p m i found.0 found.3, flat_map-append (line s plan)) in
       let Fits : List ℕ → Type 0 = λ l. Room a l in
       let after = room_then (lines s plan rest) puts (subst Fits all room) in
       omega (arith, ap length (flat_map-append (line s plan) (entry_of s i) split.0), length-append (entry_text s plan i) (lines s plan split.0))

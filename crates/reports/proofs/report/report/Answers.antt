@@ -1,5 +1,6 @@
 use Rattle.std.proofs.Common.{◌≡◌, ℕ, ◌+◌, ◌*◌, ◌^◌, ◌<◌, ◌≤◌, ◌++◌, List, length, ℤ, Ok, None, sym, ap, ◌∙◌, arith, rules, w64}
 use Rattle.std.specs.Int.Signed.{mag}
+use Rattle.std.proofs.lemmas.Bool.{le-leb}
 use Rattle.std.proofs.lemmas.Int.{to_z-of_z}
 use Rattle.model.specs.Studies.{Model, Limits, model}
 use Rattle.model.proofs.Limited.{limited}
@@ -7,8 +8,7 @@ use Rattle.plans.specs.Questions.{count}
 use Rattle.reports.specs.declared.place.Writer.{Writer}
 use Rattle.reports.specs.Lines.{total_line}
 use Rattle.reports.specs.Places.{Room, Puts}
-use Rattle.reports.specs.Reports.{lines, list_text, report_text, at_front, reported}
-use Rattle.reports.proofs.Accepted.{accepted}
+use Rattle.reports.specs.Reports.{lines, list_text, reported}
 use Rattle.reports.proofs.Entries.{order_is}
 use Rattle.reports.proofs.Lengths.{lines_short, total_short}
 use Rattle.reports.proofs.Writing.{puts_then, puts_same, front_is, front_end, length_kept}
@@ -42,11 +42,8 @@ total-requires c =
 -- an accepted call
 answers : (s : Model) (limits : Limits s) (plan : List ℕ) (z : ℤ) (place last : List ℕ) (a b : Writer) (end : ℕ) → count s ≤ length plan → 16 * count s + 32 ≤ length place → a.place.now ≡ place → a.at ≡ 0 → Puts a (list_text s plan None ++ total_line z) b → end ≡ b.at → last ≡ b.place.now → (Ok end, last) ≡ reported s plan z place
 answers s limits plan z place last a b end long room same front puts ends holds =
-    let text = report_text s plan z in
     let put = puts_same (ap (λ is. lines s plan is ++ total_line z) (sym (order_is s limits))) puts in
-    ap (λ n. (Ok n, last)) (ends ∙ front_end front put)
-    ∙ ap (λ l. (Ok (length text), l)) (holds ∙ front_is front put ∙ ap (at_front text) same)
-    ∙ sym (accepted s plan z place long room)
+    simp (ends, front_end front put, holds, front_is front put, same, le-leb (count s) (length plan) long, le-leb (16 * count s + 32) (length place) room)
 
 pub returns : goal.returns
 returns c =
