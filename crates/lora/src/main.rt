@@ -3,14 +3,12 @@
 
 use printing::printed::Printed;
 use printing::solution::solve_file;
+use printing::study::MOST_READ;
 use printing::trial::try_file;
 use std::alloc::{AllocError, Global};
 use std::env;
 use std::io::{Read, Write};
 use std::process::ExitCode;
-
-// One byte more than the longest study file, so that a longer one is seen and refused, not cut.
-const MOST_READ: u64 = 65_521;
 
 const USAGE: &str = "usage: lora < FILE
        lora --try RECORD AMOUNT < FILE
@@ -83,14 +81,10 @@ fn main(rt: HostRuntime) -> anyhow::Result<ExitCode> {
     };
     let mut file = Vec::new(rt.alloc());
     rt.stdin().take(MOST_READ).read_to_end(&mut file)?;
-    match printed_for(rt.alloc(), task, file.as_mut_slice())? {
-        Printed::Report(text) => {
-            rt.stdout().write_all(text.as_slice())?;
-            Ok(ExitCode::SUCCESS)
-        }
-        Printed::Refusal(text) => {
-            rt.stdout().write_all(text.as_slice())?;
-            Ok(ExitCode::FAILURE)
-        }
-    }
+    let (text, status) = match printed_for(rt.alloc(), task, file.as_mut_slice())? {
+        Ok(report) => (report, ExitCode::SUCCESS),
+        Err(refusal) => (refusal, ExitCode::FAILURE),
+    };
+    rt.stdout().write_all(text.as_slice())?;
+    Ok(status)
 }

@@ -4,7 +4,7 @@
 pub mod printed;
 pub mod quotation;
 pub mod solution;
-mod study;
+pub mod study;
 #[cfg(test)]
 mod tests;
 pub mod trial;

@@ -4,7 +4,7 @@ ghost use Rattle.model.specs.Studies.{model};
 ghost use Rattle.plans.specs.Questions.{count};
 ghost use Rattle.reports.specs.Lines.{refusal_line};
 ghost use Rattle.reports.specs.Reports.{report_text};
-ghost use Rattle.printing.specs.Shown.{shown, Shows, text_of, is_report, followed_by};
+ghost use Rattle.printing.specs.Shown.{shown, text_of, followed_by};
 
 use model::refusal::Refusal;
 use model::study::Study;
@@ -12,32 +12,15 @@ use reports::refusal_line::refusal_line;
 use reports::report::report;
 use std::alloc::{AllocError, Global};
 
-// A refusal may stand after a report, where a program prints two texts.
-#[derive(Drop)]
-pub enum Printed {
-    Report(Vec<u8>),
-    Refusal(Vec<u8>),
-}
+// A report, or what a refusal is among: it may stand after a report, where a program prints two texts.
+pub type Printed = Result<Vec<u8>, Vec<u8>>;
 
-impl Printed {
-    // The bytes.
-    pub(crate) fn text(&self) -> &[u8]
-        ensures { result.now ≡ text_of self.now }
-    {
-        match self {
-            Printed::Report(text) => text.as_slice(),
-            Printed::Refusal(text) => text.as_slice(),
-        }
-    }
-
-    // Whether no refusal is among it.
-    pub(crate) fn is_report(&self) -> bool
-        ensures { result ≡ is_report self.now }
-    {
-        match self {
-            Printed::Report(_) => true,
-            Printed::Refusal(_) => false,
-        }
+// The bytes, whichever they are.
+pub(crate) fn text_of(printed: &Printed) -> &[u8]
+    ensures { result.now ≡ text_of (shown printed.now) }
+{
+    match printed {
+        Ok(text) | Err(text) => text.as_slice(),
     }
 }
 
@@ -47,22 +30,22 @@ pub(crate) fn followed_by(
     first: &Printed,
     second: &Printed,
 ) -> Result<Printed, AllocError>
-    ensures { IfOk result (λ q. Shows q (followed_by (shown first.now) (shown second.now))) }
+    ensures { IfOk result (λ q. shown q ≡ followed_by (shown first.now) (shown second.now)) }
 {
-    let mut text = first.text().to_vec(heap)?;
-    text.extend_from_slice(second.text())?;
-    if first.is_report() && second.is_report() {
-        Ok(Printed::Report(text))
+    let mut text = text_of(first).to_vec(heap)?;
+    text.extend_from_slice(text_of(second))?;
+    Ok(if first.is_ok() && second.is_ok() {
+        Ok(text)
     } else {
-        Ok(Printed::Refusal(text))
-    }
+        Err(text)
+    })
 }
 
 // The line of a refusal.
 pub(crate) fn refused(heap: Global, why: &Refusal) -> Result<Printed, AllocError>
-    ensures { IfOk result (λ q. Shows q (Err (refusal_line why.now))) }
+    ensures { IfOk result (λ q. shown q ≡ Err (refusal_line why.now)) }
 {
-    Ok(Printed::Refusal(refusal_line(heap, why)?))
+    Ok(Err(refusal_line(heap, why)?))
 }
 
 // Room for the report of any study: 16 bytes for each of 60 components, and 32 more.
@@ -76,11 +59,11 @@ pub(crate) fn report_plan(
     cents: i64,
 ) -> Result<Printed, AllocError>
     requires { count (model study.now) ≤ length plan.now }
-    ensures { IfOk result (λ q. Shows q (Ok (report_text (model study.now) plan.now cents))) }
+    ensures { IfOk result (λ q. shown q ≡ Ok (report_text (model study.now) plan.now cents)) }
 {
     let mut place = [0; LONGEST_REPORT];
     match report(study, plan, cents, &mut place) {
-        Ok(length) => Ok(Printed::Report(place[0..length].to_vec(heap)?)),
+        Ok(length) => Ok(Ok(place[0..length].to_vec(heap)?)),
         Err(why) => refused(heap, &why),
     }
 }

@@ -1,7 +1,7 @@
 // What lora prints: the report of the least plan, or the line of the refusal.
-ghost use Rattle.std.specs.Prelude.{IfOk, Ok};
+ghost use Rattle.std.specs.Prelude.{◌≡◌, IfOk, Ok};
 ghost use Rattle.model.specs.Studies.{model};
-ghost use Rattle.printing.specs.Shown.{Shows};
+ghost use Rattle.printing.specs.Shown.{shown};
 ghost use Rattle.printing.specs.Solutions.{solution_for, solution};
 
 use crate::printed::{Printed, refused, report_plan};
@@ -14,7 +14,7 @@ use std::alloc::{AllocError, Global};
 
 // Solves the study by money with the table book of the file. There is room for every study: 60 components, 4 echelons.
 pub(crate) fn solve_study(heap: Global, study: &Study, file: &[u8]) -> Result<Printed, AllocError>
-    ensures { IfOk result (λ q. Shows q (solution_for file.now (Ok (model study.now)))) }
+    ensures { IfOk result (λ q. shown q ≡ solution_for file.now (Ok (model study.now))) }
 {
     let mut plan = [0; 60];
     let mut working = [0; 240];
@@ -32,7 +32,7 @@ pub(crate) fn solve_study(heap: Global, study: &Study, file: &[u8]) -> Result<Pr
 
 // Takes the file in, and solves the study that it makes.
 pub fn solve_file(heap: Global, file: &[u8]) -> Result<Printed, AllocError>
-    ensures { IfOk result (λ q. Shows q (solution file.now)) }
+    ensures { IfOk result (λ q. shown q ≡ solution file.now) }
 {
     match study_of(heap, file)? {
         Ok(study) => solve_study(heap, &study, file),

@@ -1,5 +1,5 @@
 // What is printed for a small file: the least plan, and a trial of it.
-use crate::printed::Printed;
+use crate::printed::{Printed, text_of};
 use crate::solution::solve_file;
 use crate::trial::try_file;
 use std::process::Abort;
@@ -15,8 +15,8 @@ F\0\x01\0\0\0\0\0\0\0\0\0\0\0\0\x02\0\0\0\0\0\0\0\0";
 
 // What is printed has these bytes, and a refusal among them or none.
 fn shows(rt: &impl Abort, printed: &Printed, report: bool, text: &[u8]) {
-    assert!(rt; printed.is_report() == report);
-    assert!(rt; printed.text() == text);
+    assert!(rt; printed.is_ok() == report);
+    assert!(rt; text_of(printed) == text);
 }
 
 #[test]

@@ -1,7 +1,7 @@
 // What lora prints with --try: the report of the trial, and then the report of the file as it is; or the lines of refusals.
 ghost use Rattle.std.specs.Prelude.{◌≡◌, IfOk, Ok};
 ghost use Rattle.model.specs.Studies.{model};
-ghost use Rattle.printing.specs.Shown.{Shows};
+ghost use Rattle.printing.specs.Shown.{shown};
 ghost use Rattle.printing.specs.Trials.{trial_text, tried_for, tried_and_solved};
 
 use crate::printed::{Printed, followed_by, refused, report_plan};
@@ -19,7 +19,7 @@ fn try_amount(
     record: usize,
     amount: i64,
 ) -> Result<Printed, AllocError>
-    ensures text { IfOk result (λ q. Shows q (trial_text file.old «record» amount (model study.now))) }
+    ensures text { IfOk result (λ q. shown q ≡ trial_text file.old «record» amount (model study.now)) }
     ensures file { file.new ≡ file.old }
 {
     let mut plan = [0; 60];
@@ -38,7 +38,7 @@ fn try_and_solve(
     record: usize,
     amount: i64,
 ) -> Result<Printed, AllocError>
-    ensures text { IfOk result (λ q. Shows q (tried_for file.old «record» amount (Ok (model study.now)))) }
+    ensures text { IfOk result (λ q. shown q ≡ tried_for file.old «record» amount (Ok (model study.now))) }
     ensures file { file.new ≡ file.old }
 {
     let tried = try_amount(heap, study, file, record, amount)?;
@@ -53,7 +53,7 @@ pub fn try_file(
     record: usize,
     amount: i64,
 ) -> Result<Printed, AllocError>
-    ensures text { IfOk result (λ q. Shows q (tried_and_solved file.old «record» amount)) }
+    ensures text { IfOk result (λ q. shown q ≡ tried_and_solved file.old «record» amount) }
     ensures file { file.new ≡ file.old }
 {
     match study_of(heap, file)? {

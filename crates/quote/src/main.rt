@@ -1,14 +1,11 @@
 // quote: prices a plan for a study file. `quote BYTE.. < FILE`
 #![tactic(auto)]
 
-use printing::printed::Printed;
 use printing::quotation::quote_plan;
+use printing::study::MOST_READ;
 use std::env;
 use std::io::{Read, Write};
 use std::process::ExitCode;
-
-// One byte more than the longest study file, so that a longer one is seen and refused, not cut.
-const MOST_READ: u64 = 65_521;
 
 const USAGE: &str = "usage: quote BYTE.. < FILE
 Prices a plan for the study in FILE. The plan has one number a component, in the order of their numbers:
@@ -34,14 +31,10 @@ fn main(rt: HostRuntime) -> anyhow::Result<ExitCode> {
     }
     let mut file = Vec::new(rt.alloc());
     rt.stdin().take(MOST_READ).read_to_end(&mut file)?;
-    match quote_plan(rt.alloc(), file.as_slice(), plan.as_slice())? {
-        Printed::Report(text) => {
-            rt.stdout().write_all(text.as_slice())?;
-            Ok(ExitCode::SUCCESS)
-        }
-        Printed::Refusal(line) => {
-            rt.stdout().write_all(line.as_slice())?;
-            Ok(ExitCode::FAILURE)
-        }
-    }
+    let (text, status) = match quote_plan(rt.alloc(), file.as_slice(), plan.as_slice())? {
+        Ok(report) => (report, ExitCode::SUCCESS),
+        Err(refusal) => (refusal, ExitCode::FAILURE),
+    };
+    rt.stdout().write_all(text.as_slice())?;
+    Ok(status)
 }

@@ -1,4 +1,4 @@
-use Rattle.std.proofs.Common.{◌≡◌, ℕ, ◌+◌, ◌-◌, ◌*◌, ◌≤◌, List, length, take, replicate, ℤ, Ok, sym, refl, ap, ◌∙◌, arith, w64}
+use Rattle.std.proofs.Common.{◌≡◌, ℕ, ◌+◌, ◌-◌, ◌*◌, ◌≤◌, List, length, take, replicate, ℤ, Ok, refl, ap, ◌∙◌, arith, w64}
 use Rattle.std.proofs.lemmas.List.{take_at, length-replicate}
 use Rattle.std.proofs.lemmas.Int.{to_z-of_z}
 use Rattle.model.specs.Studies.{Model, Limits, model}
@@ -35,4 +35,4 @@ returns-in_ok-to_vec-in-Ok c =
     let n = c.in-Ok.length in
     let w = written s (limited c.args.study.now) c.args.plan.now _ z c.report.new.place n c.requires (to_z-of_z w64 z c.ranges.cents) c.in-Ok.ensures in
     let cut : n - 0 ≡ length text = omega (arith, w.0) in
-    ap Ok (sym (c.in_ok-to_vec-in-Ok.ensures.items_if_clones_equal (λ x y e. e) ∙ ap (λ l. take (n - 0) l) w.1 ∙ ap (λ k. take k (at_front text (replicate 992 0))) cut ∙ take_at text _ (length text) refl))
+    ap Ok (c.in_ok-to_vec-in-Ok.ensures.items_if_clones_equal (λ x y e. e) ∙ ap (λ l. take (n - 0) l) w.1 ∙ ap (λ k. take k (at_front text (replicate 992 0))) cut ∙ take_at text _ (length text) refl)

@@ -2,7 +2,7 @@ use Rattle.std.proofs.Common.{◌≡◌, replicate, IfOk, Err, ap, ◌∙◌, su
 use Rattle.std.proofs.lemmas.Int.{to_z-of_z}
 use Rattle.model.specs.Studies.{model}
 use Rattle.trials.specs.Trials.{tried}
-use Rattle.printing.specs.Shown.{Shows}
+use Rattle.printing.specs.Shown.{shown}
 use Rattle.printing.specs.Quoted.{answered}
 use Rattle.printing.proofs.trial.try_amount.Goals as goal
 
@@ -15,6 +15,6 @@ returns-in-Err c =
     let tries = c.in-Err.ensures.tries in
     let refusal : Err c.in-Err.why ≡ (tried s file j z 240 (replicate 60 0)).answer = tries.answers ∙ ap (λ x. (tried s file j x 240 (replicate 60 0)).answer) (to_z-of_z w64 z c.ranges.amount) in
     record {
-      text = subst (λ t. IfOk c.refused.result (λ q. Shows q t)) (ap (answered s (tried s file j z 240 (replicate 60 0)).place) refusal) c.refused.ensures;
+      text = subst (λ t. IfOk c.refused.result (λ q. shown q ≡ t)) (ap (answered s (tried s file j z 240 (replicate 60 0)).place) refusal) c.refused.ensures;
       file = tries.file_is_back;
     }
