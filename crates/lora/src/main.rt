@@ -9,6 +9,7 @@ use std::alloc::{AllocError, Global};
 use std::env;
 use std::io::{Read, Write};
 use std::process::ExitCode;
+use trials::change::Change;
 
 const USAGE: &str = "usage: lora < FILE
        lora --try RECORD AMOUNT < FILE
@@ -23,7 +24,7 @@ The status is 1 where something was refused.";
 enum Task {
     Help,
     Solve,
-    Try { record: usize, amount: i64 },
+    Try(Change),
 }
 
 // What the arguments ask for; none where lora does nothing of the kind.
@@ -33,7 +34,7 @@ fn task_of(words: &[String]) -> Option<Task> {
         [option, ..] if option.as_str() == "--help" => Some(Task::Help),
         [option, record, amount] if option.as_str() == "--try" => {
             match (record.parse::<usize>(), amount.parse::<i64>()) {
-                (Ok(record), Ok(amount)) => Some(Task::Try { record, amount }),
+                (Ok(record), Ok(cents)) => Some(Task::Try(Change { record, cents })),
                 _ => None,
             }
         }
@@ -44,7 +45,7 @@ fn task_of(words: &[String]) -> Option<Task> {
 // What is printed for the file.
 fn printed_for(heap: Global, task: Task, file: &mut [u8]) -> Result<Printed, AllocError> {
     match task {
-        Task::Try { record, amount } => try_file(heap, file, record, amount),
+        Task::Try(change) => try_file(heap, file, change),
         _ => solve_file(heap, file),
     }
 }

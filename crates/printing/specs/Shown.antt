@@ -2,9 +2,16 @@
 use Rattle.std.specs.Prelude.{ℕ, List, ◌++◌, Ok, Err, vec_items, Result}
 use Rattle.std.specs.Global.{Vec}
 use Rattle.std.specs.Result.{result_map_both}
+use Rattle.files.specs.declared.intake.IntakeError.{IntakeError}
+use Rattle.reports.specs.Lines.{refusal_line}
+use Rattle.printing.specs.Taken.{Answers}
 
 abbrev pub shown : Result (Vec ℕ) (Vec ℕ) → Result (List ℕ) (List ℕ)
 shown printed = result_map_both vec_items vec_items printed
+
+-- the text of a report, or of the line of a refusal, is `wanted`
+abbrev pub Prints : Result (Vec ℕ) IntakeError → Result (List ℕ) (List ℕ) → Type 0
+Prints text wanted = Answers vec_items refusal_line text wanted
 
 -- the bytes alone
 abbrev pub text_of : Result (List ℕ) (List ℕ) → List ℕ

@@ -1,12 +1,11 @@
 // What a program prints: the report of a plan, or the line of a refusal.
-ghost use Rattle.std.specs.Prelude.{◌≡◌, ◌≤◌, length, IfOk, Ok, Err};
+ghost use Rattle.std.specs.Prelude.{◌≡◌, ◌≤◌, length, IfOk, Ok};
 ghost use Rattle.model.specs.Studies.{model};
 ghost use Rattle.plans.specs.Questions.{count};
-ghost use Rattle.reports.specs.Lines.{refusal_line};
 ghost use Rattle.reports.specs.Reports.{report_text};
-ghost use Rattle.printing.specs.Shown.{shown, text_of, followed_by};
+ghost use Rattle.printing.specs.Shown.{shown, Prints, text_of, followed_by};
 
-use model::refusal::Refusal;
+use files::intake::IntakeError;
 use model::study::Study;
 use reports::refusal_line::refusal_line;
 use reports::report::report;
@@ -41,11 +40,18 @@ pub(crate) fn followed_by(
     })
 }
 
-// The line of a refusal.
-pub(crate) fn refused(heap: Global, why: &Refusal) -> Result<Printed, AllocError>
-    ensures { IfOk result (λ q. shown q ≡ Err (refusal_line why.now)) }
+// What is printed for the text of a report: the text, or the line of the refusal.
+pub(crate) fn printed(
+    heap: Global,
+    text: Result<Vec<u8>, IntakeError>,
+) -> Result<Printed, AllocError>
+    ensures { (wanted : _) → Prints text wanted → IfOk result (λ q. shown q ≡ wanted) }
 {
-    Ok(Err(refusal_line(heap, why)?))
+    match text {
+        Ok(text) => Ok(Ok(text)),
+        Err(IntakeError::Refused(why)) => Ok(Err(refusal_line(heap, &why)?)),
+        Err(IntakeError::OutOfMemory) => Err(AllocError),
+    }
 }
 
 // Room for the report of any study: 16 bytes for each of 60 components, and 32 more.
@@ -57,13 +63,11 @@ pub(crate) fn report_plan(
     study: &Study,
     plan: &[u8],
     cents: i64,
-) -> Result<Printed, AllocError>
+) -> Result<Vec<u8>, IntakeError>
     requires { count (model study.now) ≤ length plan.now }
-    ensures { IfOk result (λ q. shown q ≡ Ok (report_text (model study.now) plan.now cents)) }
+    ensures { Prints result (Ok (report_text (model study.now) plan.now cents)) }
 {
     let mut place = [0; LONGEST_REPORT];
-    match report(study, plan, cents, &mut place) {
-        Ok(length) => Ok(Ok(place[0..length].to_vec(heap)?)),
-        Err(why) => refused(heap, &why),
-    }
+    let length = report(study, plan, cents, &mut place).map_err(IntakeError::Refused)?;
+    Ok(place[0..length].to_vec(heap)?)
 }

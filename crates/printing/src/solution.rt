@@ -1,41 +1,40 @@
 // What lora prints: the report of the least plan, or the line of the refusal.
 ghost use Rattle.std.specs.Prelude.{◌≡◌, IfOk, Ok};
 ghost use Rattle.model.specs.Studies.{model};
-ghost use Rattle.printing.specs.Shown.{shown};
+ghost use Rattle.printing.specs.Shown.{shown, Prints};
 ghost use Rattle.printing.specs.Solutions.{solution_for, solution};
 
-use crate::printed::{Printed, refused, report_plan};
+use crate::printed::{Printed, printed, report_plan};
 use crate::study::study_of;
 use costs::money::Money;
+use files::intake::IntakeError;
 use files::table_book::TableBook;
 use model::study::Study;
 use solving::solve::solve;
 use std::alloc::{AllocError, Global};
 
 // Solves the study by money with the table book of the file. There is room for every study: 60 components, 4 echelons.
-pub(crate) fn solve_study(heap: Global, study: &Study, file: &[u8]) -> Result<Printed, AllocError>
-    ensures { IfOk result (λ q. shown q ≡ solution_for file.now (Ok (model study.now))) }
+pub(crate) fn solve_study(heap: Global, study: &Study, file: &[u8]) -> Result<Vec<u8>, IntakeError>
+    ensures { Prints result (solution_for file.now (Ok (model study.now))) }
 {
     let mut plan = [0; 60];
     let mut working = [0; 240];
-    match solve(
-        study,
-        &TableBook { bytes: file },
-        &Money,
-        &mut plan,
-        &mut working,
-    ) {
-        Ok(cents) => report_plan(heap, study, &plan, cents),
-        Err(why) => refused(heap, &why),
-    }
+    let book = TableBook { bytes: file };
+    let cents = solve(study, &book, &Money, &mut plan, &mut working).map_err(IntakeError::Refused)?;
+    report_plan(heap, study, &plan, cents)
 }
 
 // Takes the file in, and solves the study that it makes.
+fn solution_of(heap: Global, file: &[u8]) -> Result<Vec<u8>, IntakeError>
+    ensures { Prints result (solution file.now) }
+{
+    let study = study_of(heap, file)?;
+    solve_study(heap, &study, file)
+}
+
+// The solution of a file.
 pub fn solve_file(heap: Global, file: &[u8]) -> Result<Printed, AllocError>
     ensures { IfOk result (λ q. shown q ≡ solution file.now) }
 {
-    match study_of(heap, file)? {
-        Ok(study) => solve_study(heap, &study, file),
-        Err(why) => refused(heap, &why),
-    }
+    printed(heap, solution_of(heap, file))
 }

@@ -4,6 +4,7 @@ use crate::solution::solve_file;
 use crate::trial::try_file;
 use std::process::Abort;
 use std::test::Fail;
+use trials::change::Change;
 
 // One echelon and one resource; a top component of rate 1 whose repair needs the resource; discard for 9 cents, repair for 5,
 // and the resource for 2 a year, which a thousand years make 2,000.
@@ -17,6 +18,11 @@ F\0\x01\0\0\0\0\0\0\0\0\0\0\0\0\x02\0\0\0\0\0\0\0\0";
 fn shows(rt: &impl Abort, printed: &Printed, report: bool, text: &[u8]) {
     assert!(rt; printed.is_ok() == report);
     assert!(rt; text_of(printed) == text);
+}
+
+// The change of a record, counted from 0, to those cents.
+fn change(record: usize, cents: i64) -> Change {
+    Change { record, cents }
 }
 
 #[test]
@@ -41,18 +47,18 @@ fn prints(rt: HostRuntime) -> Result<(), Fail> {
 #[test]
 fn prints_trials(rt: HostRuntime) -> Result<(), Fail> {
     let mut file = FILE;
-    let dearer = try_file(rt.alloc(), &mut file, 2, 3_000)?;
+    let dearer = try_file(rt.alloc(), &mut file, change(2, 3_000))?;
     shows(&rt, &dearer, true, b"0 R1\ntotal 2005\n0 D1\ntotal 9\n");
-    let refused = try_file(rt.alloc(), &mut file, 1, 0)?;
+    let refused = try_file(rt.alloc(), &mut file, change(1, 0))?;
     shows(&rt, &refused, false, b"refused 37\n0 D1\ntotal 9\n");
-    let beyond = try_file(rt.alloc(), &mut file, 4, -1)?;
+    let beyond = try_file(rt.alloc(), &mut file, change(4, -1))?;
     shows(
         &rt,
         &beyond,
         false,
         b"refused 12 1 T 0 0 1 F\n0 D1\ntotal 9\n",
     );
-    let short = try_file(rt.alloc(), &mut file[0..23], 0, 0)?;
+    let short = try_file(rt.alloc(), &mut file[0..23], change(0, 0))?;
     shows(&rt, &short, false, b"refused 31\n");
     assert!(rt; file == FILE);
     Ok(())

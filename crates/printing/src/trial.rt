@@ -1,33 +1,32 @@
 // What lora prints with --try: the report of the trial, and then the report of the file as it is; or the lines of refusals.
 ghost use Rattle.std.specs.Prelude.{◌≡◌, IfOk, Ok};
 ghost use Rattle.model.specs.Studies.{model};
-ghost use Rattle.printing.specs.Shown.{shown};
+ghost use Rattle.printing.specs.Shown.{shown, Prints};
 ghost use Rattle.printing.specs.Trials.{trial_text, tried_for, tried_and_solved};
 
-use crate::printed::{Printed, followed_by, refused, report_plan};
+use crate::printed::{Printed, followed_by, printed, report_plan};
 use crate::solution::solve_study;
 use crate::study::study_of;
+use files::intake::IntakeError;
 use model::study::Study;
 use std::alloc::{AllocError, Global};
+use trials::change::Change;
 use trials::trial::trial;
 
-// The trial of an amount.
-fn try_amount(
+// The trial of a change.
+fn try_change(
     heap: Global,
     study: &Study,
     file: &mut [u8],
-    record: usize,
-    amount: i64,
-) -> Result<Printed, AllocError>
-    ensures text { IfOk result (λ q. shown q ≡ trial_text file.old «record» amount (model study.now)) }
+    change: Change,
+) -> Result<Vec<u8>, IntakeError>
+    ensures text { Prints result (trial_text file.old change.record change.cents (model study.now)) }
     ensures file { file.new ≡ file.old }
 {
     let mut plan = [0; 60];
     let mut working = [0; 240];
-    match trial(study, file, record, amount, &mut plan, &mut working) {
-        Ok(cents) => report_plan(heap, study, &plan, cents),
-        Err(why) => refused(heap, &why),
-    }
+    let cents = trial(study, file, change, &mut plan, &mut working).map_err(IntakeError::Refused)?;
+    report_plan(heap, study, &plan, cents)
 }
 
 // The trial, and then the file as it is.
@@ -35,29 +34,23 @@ fn try_and_solve(
     heap: Global,
     study: &Study,
     file: &mut [u8],
-    record: usize,
-    amount: i64,
+    change: Change,
 ) -> Result<Printed, AllocError>
-    ensures text { IfOk result (λ q. shown q ≡ tried_for file.old «record» amount (Ok (model study.now))) }
+    ensures text { IfOk result (λ q. shown q ≡ tried_for file.old change.record change.cents (Ok (model study.now))) }
     ensures file { file.new ≡ file.old }
 {
-    let tried = try_amount(heap, study, file, record, amount)?;
-    let solved = solve_study(heap, study, file)?;
+    let tried = printed(heap, try_change(heap, study, file, change))?;
+    let solved = printed(heap, solve_study(heap, study, file))?;
     followed_by(heap, &tried, &solved)
 }
 
-// Takes the file in, and tries the amount in a record for the study that it makes. The file is as before.
-pub fn try_file(
-    heap: Global,
-    file: &mut [u8],
-    record: usize,
-    amount: i64,
-) -> Result<Printed, AllocError>
-    ensures text { IfOk result (λ q. shown q ≡ tried_and_solved file.old «record» amount) }
+// Takes the file in, and tries the change of a record for the study that it makes. The file is as before.
+pub fn try_file(heap: Global, file: &mut [u8], change: Change) -> Result<Printed, AllocError>
+    ensures text { IfOk result (λ q. shown q ≡ tried_and_solved file.old change.record change.cents) }
     ensures file { file.new ≡ file.old }
 {
-    match study_of(heap, file)? {
-        Ok(study) => try_and_solve(heap, &study, file, record, amount),
-        Err(why) => refused(heap, &why),
+    match study_of(heap, file) {
+        Ok(study) => try_and_solve(heap, &study, file, change),
+        Err(why) => printed(heap, Err(why)),
     }
 }

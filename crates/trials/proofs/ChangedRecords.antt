@@ -1,5 +1,5 @@
 -- A file with other cents in one record, record by record.
-use Rattle.std.proofs.Common.{◌≡◌, ℕ, ◌+◌, ◌*◌, ◌/◌, ◌<◌, ◌≤◌, Bool, true, ◌&&◌, ltb, ◌⊎◌, List, map, length, get_or, drop, ℤ, sym, refl, ap, ◌∙◌, inl, inr, ⊎_elim, add-zero, zero-add, arith, length-drop, length-take, w64, SFits, to_z, of_z}
+use Rattle.std.proofs.Common.{◌≡◌, ℕ, ◌+◌, ◌*◌, ◌/◌, ◌<◌, ◌≤◌, true, ltb, ◌⊎◌, List, map, length, get_or, drop, ℤ, sym, refl, ap, ◌∙◌, inl, inr, ⊎_elim, zero-add, arith, length-drop, length-take, w64, SFits, to_z, of_z}
 use lib.Signed.{lt_z}
 use mir.ValLaws.{of_z_fits}
 use Rattle.std.specs.List.{range_with_len, between}
@@ -7,7 +7,7 @@ use Rattle.std.proofs.lemmas.List.FromFn.{length-map-range_with_len, get_or-map-
 use Rattle.std.proofs.lemmas.List.Edits.{length-between, get_or-between}
 use Rattle.std.proofs.lemmas.List.{ext_get_or, get_or-take, get_or-drop}
 use Rattle.std.proofs.lemmas.Int.{to_z-of_z, of_z-to_z}
-use Rattle.std.proofs.lemmas.Bool.{and_parts, ltb-true, lt-ltb, cond-true, cases_lt}
+use Rattle.std.proofs.lemmas.Bool.{and_parts, ltb-true, cond-true, cases_lt}
 use Rattle.costs.specs.Amounts.{money}
 use Rattle.files.specs.Records.{byte, number_at, record_at, kind, charge_of}
 use Rattle.files.specs.RoundTrips.{Bytes}
@@ -28,12 +28,6 @@ whole file j h = omega (arith, ltb-true j (length file / 24) (and_parts (ltb j (
 -- byte k of record i
 record_byte : (file : List ℕ) (i k : ℕ) → k < 24 → byte (record_at file i) k ≡ get_or file (24 * i + k) 0
 record_byte file i k h = get_or-take 24 (drop (24 * i) file) k 0 h ∙ get_or-drop (24 * i) file k 0
-
--- the test of the code, which reads the kind at the record's first byte
-pub charge_tested : (file : List ℕ) (j k : ℕ) (r : Bool) → j < length file / 24 → k ≡ get_or file (24 * j) 0 → r ≡ is_charge k → r ≡ is_charge_record file j
-charge_tested file j k r h is tested =
-    let kind-is : kind (record_at file j) ≡ k = record_byte file j 0 (omega arith) ∙ ap (λ n. get_or file n 0) (add-zero (24 * j)) ∙ sym is in
-    tested ∙ ap is_charge (sym kind-is) ∙ ap (λ t. t && is_charge (kind (record_at file j))) (sym (lt-ltb j (length file / 24) h))
 
 module _ (file : List ℕ) (j : ℕ) (z : ℤ) (in-file : 24 * j + 24 ≤ length file) where
   abbrev changed : List ℕ

@@ -1,15 +1,9 @@
 -- A file with other bytes in one place: all else is as it was, and the bytes that stood there, put back, give the file.
 use Rattle.std.proofs.Common.{◌≡◌, ℕ, ◌+◌, ◌-◌, ◌<◌, ◌≤◌, ◌⊎◌, List, ◌++◌, length, get_or, take, drop, sym, refl, ap, ◌∙◌, ⊎_elim, arith, length-append, length-drop}
-use borrow.Rule.Slice.PartMut.{put_mid}
 use Rattle.std.specs.List.{between}
 use Rattle.std.proofs.lemmas.List.{take_at, drop_at, drop-drop, length-take-le, get_or_append_left, get_or-take, get_or-drop}
-use Rattle.std.proofs.lemmas.List.Edits.{split_between, length-between, paste_all}
-use Rattle.std.proofs.lemmas.Slice.{put_mid-paste}
+use Rattle.std.proofs.lemmas.List.Edits.{split_between, length-between}
 use Rattle.trials.specs.Changes.{with_bytes}
-
--- a part of a file that is lent for writing and then holds the new bytes
-pub put_is : (at width : ℕ) (file part new : List ℕ) → part ≡ new → width ≡ length new → put_mid at width file part ≡ with_bytes file at new
-put_is at width file part new is size = put_mid-paste at width file part new (length new) is (sym size) refl ∙ paste_all file at new (length new) refl
 
 module _ (file new : List ℕ) (at : ℕ) (inside : at + length new ≤ length file) where
   front_length : length (take at file) ≡ at
@@ -55,10 +49,11 @@ module _ (file new : List ℕ) (at : ℕ) (inside : at + length new ≤ length f
       ∙ ap (λ xs. get_or xs k 0) (drop_at (take at file) (new ++ drop (at + length new) file) at front_length)
       ∙ get_or_append_left new (drop (at + length new) file) 0 k h
 
--- the n bytes that stand there
-pub kept_length : (file : List ℕ) (at : ℕ) (before : List ℕ) → at + 8 ≤ length file → before ≡ between at (at + 8) file → length before ≡ 8
+-- the eight bytes that stand there
+kept_length : (file : List ℕ) (at : ℕ) (before : List ℕ) → at + 8 ≤ length file → before ≡ between at (at + 8) file → length before ≡ 8
 kept_length file at before inside is = let e : at + 8 - at ≡ 8 = omega arith in ap length is ∙ length-between file at (at + 8) inside ∙ e
 
+-- the n bytes that stand there, put there again
 pub own_bytes : (file : List ℕ) (at n : ℕ) → at + n ≤ length file → with_bytes file at (between at (at + n) file) ≡ file
 own_bytes file at n inside =
     let e : at + n - at ≡ n = omega arith in

@@ -4,6 +4,7 @@ ghost use Rattle.std.specs.List.{between};
 ghost use Rattle.trials.specs.Changes.{with_bytes};
 
 // The changed bytes begin at byte `at`; `before` is what stood there.
+// Stays: tried `at + 8 ≤ length bytes.now` as a ghost field; the check covers no loan of bytes from a struct that has one.
 pub(crate) struct Changed<'a> {
     pub bytes: &'a mut [u8],
     at: usize,
@@ -21,7 +22,7 @@ fn put(file: &mut [u8], at: usize, bytes: &[u8])
 impl<'a> Changed<'a> {
     // Puts the new bytes there, and keeps what was there.
     pub(crate) fn set(bytes: &'a mut [u8], at: usize, new: [u8; 8]) -> Changed<'a>
-        requires { (at + 8 ≤ length bytes.old) × (length new ≡ 8) }
+        requires { at + 8 ≤ length bytes.old }
         ensures changed { result.bytes.now ≡ with_bytes bytes.old at new }
         ensures lent { result.bytes.ghost_name ≡ bytes.entry.ghost_name }
         ensures place { result.at ≡ at }
@@ -37,7 +38,7 @@ impl<'a> Changed<'a> {
 impl Drop for Changed<'_> {
     // Puts back what stood there.
     fn drop(self)
-        requires { (self.at + 8 ≤ length self.bytes.now) × (length self.before ≡ 8) }
+        requires { self.at + 8 ≤ length self.bytes.now }
         ensures { self.exit.0.now ≡ with_bytes self.entry.bytes.now self.entry.at self.entry.before }
     {
         let Changed { bytes, at, before } = self;

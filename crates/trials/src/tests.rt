@@ -1,5 +1,6 @@
 // Trials on a small file: T and F records, the first and the last of them, records that cannot be tried, and amounts at and
 // beyond each limit.
+use crate::change::Change;
 use crate::trial::trial;
 use files::intake::intake;
 use model::refusal::Refusal;
@@ -22,11 +23,17 @@ fn number(refusal: Refusal) -> i64 {
 
 // What a trial answers: the byte of the plan, 0 where it was refused; and the cost or the number of the refusal. The file has
 // to be as before.
-fn tried(rt: &impl Abort, study: &Study, record: usize, amount: i64) -> Result<(u8, i64), Fail> {
+fn tried(rt: &impl Abort, study: &Study, record: usize, cents: i64) -> Result<(u8, i64), Fail> {
     let mut file = FILE;
     let mut plan = [0];
     let mut working = [0];
-    let answer = trial(study, &mut file, record, amount, &mut plan, &mut working);
+    let answer = trial(
+        study,
+        &mut file,
+        Change { record, cents },
+        &mut plan,
+        &mut working,
+    );
     assert!(rt; file == FILE, "the file is as before");
     match answer {
         Ok(cost) => Ok((plan[0], cost)),
@@ -59,8 +66,8 @@ fn tries(rt: HostRuntime) -> Result<(), Fail> {
         (5, 1, 0, 37),
         (usize::MAX, 1, 0, 37),
     ];
-    for (record, amount, byte, answer) in cases {
-        assert_eq!(rt; tried(&rt, &study, record, amount)?, (byte, answer));
+    for (record, cents, byte, answer) in cases {
+        assert_eq!(rt; tried(&rt, &study, record, cents)?, (byte, answer));
     }
     Ok(())
 }
@@ -70,15 +77,19 @@ fn tries(rt: HostRuntime) -> Result<(), Fail> {
 fn asks_in_order(rt: HostRuntime) -> Result<(), Fail> {
     let study = Study::blank(rt.alloc())?;
     let mut file = FILE;
+    let change = Change {
+        record: 4,
+        cents: 1,
+    };
     let mut plan = [];
     let mut working = [];
     let short = &mut file[0..119];
     assert_eq!(rt;
-        trial(&study, short, 4, 1, &mut plan, &mut working),
+        trial(&study, short, change, &mut plan, &mut working),
         Err(Refusal::NoChargeRecord)
     );
     assert_eq!(rt;
-        trial(&study, &mut file, 4, 1, &mut plan, &mut working),
+        trial(&study, &mut file, change, &mut plan, &mut working),
         Err(Refusal::NoComponent)
     );
     Ok(())
