@@ -5,7 +5,6 @@ use printing::printed::Printed;
 use printing::solution::solve_file;
 use printing::study::MOST_READ;
 use printing::trial::try_file;
-use std::alloc::{AllocError, Global};
 use std::env;
 use std::io::{Read, Write};
 use std::process::ExitCode;
@@ -32,60 +31,55 @@ fn task_of(words: &[String]) -> Option<Task> {
     match words {
         [] => Some(Task::Solve),
         [option, ..] if option.as_str() == "--help" => Some(Task::Help),
-        [option, record, amount] if option.as_str() == "--try" => {
-            match (record.parse::<usize>(), amount.parse::<i64>()) {
-                (Ok(record), Ok(cents)) => Some(Task::Try(Change { record, cents })),
-                _ => None,
-            }
-        }
+        [option, record, amount] if option.as_str() == "--try" => Some(Task::Try(Change {
+            record: record.parse().ok()?,
+            cents: amount.parse().ok()?,
+        })),
         _ => None,
-    }
-}
-
-// What is printed for the file.
-fn printed_for(heap: Global, task: Task, file: &mut [u8]) -> Result<Printed, AllocError> {
-    match task {
-        Task::Try(change) => try_file(heap, file, change),
-        _ => solve_file(heap, file),
     }
 }
 
 // Says which argument is none that lora knows, or what `--try` wants.
 fn explain(rt: &HostRuntime, words: &[String]) -> anyhow::Result<()> {
-    if let Some(word) = words.first() {
-        if word.as_str() == "--try" {
-            eprintln!(rt;
-                "lora: --try wants a record and an amount, both whole numbers: see --help"
-            )?;
-        } else {
-            eprintln!(rt; "lora: '{word}' is no argument of lora: see --help")?;
-        }
+    match words.first().map(|word| word.as_str()) {
+        Some("--try") => eprintln!(rt;
+            "lora: --try wants a record and an amount, both whole numbers: see --help"
+        )?,
+        Some(word) => eprintln!(rt; "lora: '{word}' is no argument of lora: see --help")?,
+        None => {}
     }
     Ok(())
 }
 
-fn main(rt: HostRuntime) -> anyhow::Result<ExitCode> {
-    let mut words = Vec::new(rt.alloc());
-    for word in env::args(&rt)?.skip(1) {
-        words.push(word)?;
-    }
-    let task = match task_of(words.as_slice()) {
-        Some(Task::Help) => {
-            println!(rt; "{USAGE}")?;
-            return Ok(ExitCode::SUCCESS);
-        }
-        Some(task) => task,
-        None => {
-            explain(&rt, words.as_slice())?;
-            return Ok(ExitCode::FAILURE);
-        }
-    };
+// The study file, as far as it is read.
+fn read_file(rt: &HostRuntime) -> anyhow::Result<Vec<u8>> {
     let mut file = Vec::new(rt.alloc());
     rt.stdin().take(MOST_READ).read_to_end(&mut file)?;
-    let (text, status) = match printed_for(rt.alloc(), task, file.as_mut_slice())? {
+    Ok(file)
+}
+
+// Prints a report or a refusal. The status says which it was.
+fn print(rt: &HostRuntime, printed: Printed) -> anyhow::Result<ExitCode> {
+    let (text, status) = match printed {
         Ok(report) => (report, ExitCode::SUCCESS),
         Err(refusal) => (refusal, ExitCode::FAILURE),
     };
-    rt.stdout().write_all(text.as_slice())?;
+    rt.stdout().write_all(&text)?;
     Ok(status)
+}
+
+fn main(rt: HostRuntime) -> anyhow::Result<ExitCode> {
+    let words: Vec<String> = env::args(&rt)?.skip(1).collect(rt.alloc())?;
+    match task_of(&words) {
+        Some(Task::Help) => {
+            println!(rt; "{USAGE}")?;
+            Ok(ExitCode::SUCCESS)
+        }
+        Some(Task::Solve) => print(&rt, solve_file(rt.alloc(), &read_file(&rt)?)?),
+        Some(Task::Try(change)) => print(&rt, try_file(rt.alloc(), &mut read_file(&rt)?, change)?),
+        None => {
+            explain(&rt, &words)?;
+            Ok(ExitCode::FAILURE)
+        }
+    }
 }

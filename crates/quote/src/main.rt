@@ -19,22 +19,21 @@ fn main(rt: HostRuntime) -> anyhow::Result<ExitCode> {
             println!(rt; "{USAGE}")?;
             return Ok(ExitCode::SUCCESS);
         }
-        match word.parse::<u8>() {
-            Ok(byte) => plan.push(byte)?,
-            Err(_) => {
-                eprintln!(rt;
-                    "quote: '{word}' is no byte of a plan: a number from 0 to 255 is expected"
-                )?;
-                return Ok(ExitCode::FAILURE);
-            }
-        }
+        let Ok(byte) = word.parse() else {
+            eprintln!(rt;
+                "quote: '{word}' is no byte of a plan: a number from 0 to 255 is expected"
+            )?;
+            return Ok(ExitCode::FAILURE);
+        };
+        plan.push(byte)?;
     }
+    // Stays: lora reads and prints in these lines too; they are each program's own text, since printing neither reads nor writes.
     let mut file = Vec::new(rt.alloc());
     rt.stdin().take(MOST_READ).read_to_end(&mut file)?;
-    let (text, status) = match quote_plan(rt.alloc(), file.as_slice(), plan.as_slice())? {
+    let (text, status) = match quote_plan(rt.alloc(), &file, &plan)? {
         Ok(report) => (report, ExitCode::SUCCESS),
         Err(refusal) => (refusal, ExitCode::FAILURE),
     };
-    rt.stdout().write_all(text.as_slice())?;
+    rt.stdout().write_all(&text)?;
     Ok(status)
 }
