@@ -17,12 +17,9 @@ use std::alloc::Global;
 use std::env;
 use std::io::Write;
 
-// What was made, or an error where the call was refused.
-fn accepted<T>(answer: Result<T, Refusal>) -> anyhow::Result<T> {
-    match answer {
-        Ok(made) => Ok(made),
-        Err(_) => Err(anyhow!("a call was refused")),
-    }
+// The error of a call that was refused.
+fn refused(_why: Refusal) -> anyhow::Error {
+    anyhow!("a call was refused")
 }
 
 // A radio with a module in it and a card in that, on two echelons. Each repair needs the one test bench.
@@ -33,10 +30,10 @@ fn radio(heap: Global) -> anyhow::Result<Study> {
         repair: 1,
         moving: 0,
     };
-    accepted(study.open(2, 1))?;
-    accepted(study.enter(255, needs, 4_000))?;
-    accepted(study.enter(0, needs, 2_500))?;
-    accepted(study.enter(1, needs, 1_500))?;
+    study.open(2, 1).map_err(refused)?;
+    study.enter(255, needs, 4_000).map_err(refused)?;
+    study.enter(0, needs, 2_500).map_err(refused)?;
+    study.enter(1, needs, 1_500).map_err(refused)?;
     Ok(study)
 }
 
@@ -44,10 +41,10 @@ fn radio(heap: Global) -> anyhow::Result<Study> {
 // year.
 fn prices(heap: Global) -> anyhow::Result<PriceBook> {
     let mut book = PriceBook::blank(heap)?;
-    accepted(book.add(255, 100, 5, 100))?;
-    accepted(book.add(0, 40, 8, 100))?;
-    accepted(book.add(1, 10, 20, 100))?;
-    accepted(book.set_yearly(0, 50_000))?;
+    book.add(255, 100, 5, 100).map_err(refused)?;
+    book.add(0, 40, 8, 100).map_err(refused)?;
+    book.add(1, 10, 20, 100).map_err(refused)?;
+    book.set_yearly(0, 50_000).map_err(refused)?;
     Ok(book)
 }
 
@@ -62,7 +59,7 @@ fn show<B: ChargeBook>(
         Ok(cents) => println!(rt; "total {cents}")?,
         Err(why) => {
             let line = refusal_line(rt.alloc(), &why)?;
-            rt.stdout().write_all(line.as_slice())?;
+            rt.stdout().write_all(&line)?;
         }
     }
     Ok(())
@@ -72,30 +69,35 @@ const USAGE: &str = "usage: catalogue
 Prices plans for a small study of its own from a price book, and again with some questions barred.";
 
 fn main(rt: HostRuntime) -> anyhow::Result<()> {
-    for word in env::args(&rt)?.skip(1) {
-        if word.as_str() == "--help" {
-            println!(rt; "{USAGE}")?;
-            return Ok(());
-        }
+    if env::args(&rt)?
+        .skip(1)
+        .any(|word| word.as_str() == "--help")
+    {
+        println!(rt; "{USAGE}")?;
+        return Ok(());
     }
     let study = radio(rt.alloc())?;
     let book = prices(rt.alloc())?;
     println!(rt; "all repaired at echelon 2, by the price book:")?;
     show(&rt, &study, &book, &[4, 4, 4])?;
     let mut ruling = Ruling::over(Lent { below: &book });
-    accepted(ruling.bar(Question::OfResource {
-        resource: 0,
-        echelon: 2,
-    }))?;
+    ruling
+        .bar(Question::OfResource {
+            resource: 0,
+            echelon: 2,
+        })
+        .map_err(refused)?;
     println!(rt; "the same, with no bench allowed at echelon 2:")?;
     show(&rt, &study, &ruling, &[4, 4, 4])?;
     println!(rt; "the radio repaired aboard, the module discarded:")?;
     show(&rt, &study, &ruling, &[2, 1, 0])?;
-    accepted(ruling.bar(Question::OfOption {
-        component: 1,
-        echelon: 1,
-        option: RepairOption::Discard,
-    }))?;
+    ruling
+        .bar(Question::OfOption {
+            component: 1,
+            echelon: 1,
+            option: RepairOption::Discard,
+        })
+        .map_err(refused)?;
     println!(rt; "the same, with no discard of the module allowed aboard:")?;
     show(&rt, &study, &ruling, &[2, 1, 0])
 }

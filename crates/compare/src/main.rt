@@ -103,11 +103,12 @@ Solves 2,100 small studies of its own, 700 for each cost kind, with the solver a
 Prints for each kind how many were solved, had no plan, were tied, and differed.";
 
 fn main(rt: HostRuntime) -> anyhow::Result<()> {
-    for word in env::args(&rt)?.skip(1) {
-        if word.as_str() == "--help" {
-            println!(rt; "{USAGE}")?;
-            return Ok(());
-        }
+    if env::args(&rt)?
+        .skip(1)
+        .any(|word| word.as_str() == "--help")
+    {
+        println!(rt; "{USAGE}")?;
+        return Ok(());
     }
     compare_kind(&rt, &Money, "money", 1)?;
     compare_kind(&rt, &MoneyThenMinutes, "money, then minutes", 2)?;
