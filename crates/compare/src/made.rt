@@ -2,6 +2,7 @@
 use crate::random::Random;
 use anyhow::anyhow;
 use model::component::Needs;
+use model::question::{Question, RepairOption};
 use model::study::Study;
 
 // A study, and a file with the T and F records of its charges.
@@ -11,36 +12,52 @@ pub(crate) struct Made {
     pub charges: Vec<u8>,
 }
 
-// Adds one record of a charge: its kind, three bytes, cents from -3 to 4 and few minutes.
+// The first four bytes of the record that answers a question.
+fn head(question: Question) -> [u8; 4] {
+    match question {
+        Question::OfOption {
+            component,
+            echelon,
+            option,
+        } => [b'T', component, echelon, option.letter() as u8],
+        Question::OfResource { resource, echelon } => [b'F', resource, echelon, 0],
+    }
+}
+
+// Adds the record that answers a question: so many cents, and few minutes.
 fn add_record(
     random: &mut Random,
     charges: &mut Vec<u8>,
-    kind: u8,
-    subject: u8,
-    echelon: u8,
-    letter: u8,
+    question: Question,
     cents: i64,
 ) -> anyhow::Result<()> {
-    let [a, b, c, d, e, f, g, h] = cents.to_be_bytes();
-    let minutes = random.below(3);
-    charges.extend_from_slice(&[
-        kind, subject, echelon, letter, 0, 0, 0, 0, a, b, c, d, e, f, g, h, 0, 0, 0, 0, 0, 0, 0,
-        minutes,
-    ])?;
+    charges.extend_from_slice(&head(question))?;
+    charges.extend_from_slice(&[0; 4])?;
+    charges.extend_from_slice(&cents.to_be_bytes())?;
+    charges.extend_from_slice(&u64::from(random.below(3)).to_be_bytes())?;
     Ok(())
 }
 
-// Adds the charges of one component at one echelon. An option without a record is barred.
+// Adds the charges of one component at one echelon, of -3 to 4 cents. An option without a record is barred.
 fn add_options(
     random: &mut Random,
     charges: &mut Vec<u8>,
     component: u8,
     echelon: u8,
 ) -> anyhow::Result<()> {
-    for letter in *b"DRM" {
+    for option in [
+        RepairOption::Discard,
+        RepairOption::Repair,
+        RepairOption::Move,
+    ] {
         if random.in_ten(7) {
+            let question = Question::OfOption {
+                component,
+                echelon,
+                option,
+            };
             let cents = i64::from(random.below(8)) - 3;
-            add_record(random, charges, b'T', component, echelon, letter, cents)?;
+            add_record(random, charges, question, cents)?;
         }
     }
     Ok(())
@@ -49,23 +66,21 @@ fn add_options(
 // Which resources an option needs, among so many.
 fn some_needs(random: &mut Random, resources: u8) -> u8 {
     let mut mask = 0;
-    if resources > 0 && random.in_ten(3) {
-        mask |= 1;
-    }
-    if resources > 1 && random.in_ten(3) {
-        mask |= 2;
+    for bit in [1, 2].into_iter().take(usize::from(resources)) {
+        if random.in_ten(3) {
+            mask |= bit;
+        }
     }
     mask
 }
 
 // Enters one component under an earlier one, or at the top.
 fn add_component(random: &mut Random, study: &mut Study, number: u8) -> anyhow::Result<()> {
-    let parent = if random.in_ten(4) {
+    let parent = if random.in_ten(4) || number == 0 {
         255
     } else {
         random.below(number)
     };
-    let parent = if number == 0 { 255 } else { parent };
     let resources = study.resources();
     let needs = Needs {
         discard: some_needs(random, resources),
@@ -73,10 +88,10 @@ fn add_component(random: &mut Random, study: &mut Study, number: u8) -> anyhow::
         moving: some_needs(random, resources),
     };
     let rate = 1 + u32::from(random.below(2));
-    match study.enter(parent, needs, rate) {
-        Ok(_) => Ok(()),
-        Err(_) => Err(anyhow!("a component was refused")),
-    }
+    study
+        .enter(parent, needs, rate)
+        .map_err(|_| anyhow!("a component was refused"))?;
+    Ok(())
 }
 
 // The echelons, and how many components there may be, so that every assignment can be tried.
@@ -94,21 +109,22 @@ pub(crate) fn make(rt: &HostRuntime, random: &mut Random) -> anyhow::Result<Made
     let mut study = Study::blank(rt.alloc())?;
     let mut charges = Vec::new(rt.alloc());
     let (echelons, most) = size(random);
-    if study.open(echelons, random.below(3)).is_err() {
-        return Err(anyhow!("a study was refused"));
-    }
+    study
+        .open(echelons, random.below(3))
+        .map_err(|_| anyhow!("a study was refused"))?;
     let count = random.below(most).saturating_add(1);
     for number in 0..count {
         add_component(random, &mut study, number)?;
-        for echelon in 0..echelons {
-            add_options(random, &mut charges, number, echelon + 1)?;
+        for echelon in 1..=echelons {
+            add_options(random, &mut charges, number, echelon)?;
         }
     }
     for resource in 0..study.resources() {
-        for echelon in 0..echelons {
+        for echelon in 1..=echelons {
             if random.in_ten(8) {
+                let question = Question::OfResource { resource, echelon };
                 let cents = i64::from(random.below(4));
-                add_record(random, &mut charges, b'F', resource, echelon + 1, 0, cents)?;
+                add_record(random, &mut charges, question, cents)?;
             }
         }
     }

@@ -14,13 +14,14 @@ use made::{Made, make};
 use plain::{Least, try_all};
 use random::Random;
 use solving::solve::solve;
-use std::env;
+use std::alloc::{AllocError, Global};
+use std::{env, fmt};
 
 // The studies of each cost kind.
 const STUDIES: u32 = 700;
 
 // How the studies of one kind came out.
-#[derive(Clone, Copy)]
+#[derive(Clone, Copy, Default)]
 struct Counts {
     solved: u32,
     without_plan: u32,
@@ -28,32 +29,39 @@ struct Counts {
     differed: u32,
 }
 
+impl fmt::Display for Counts {
+    fn fmt<W: fmt::Write>(&self, f: &mut fmt::Formatter<W>) -> fmt::Result {
+        write!(
+            f,
+            "{} solved, {} without a plan, {} tied, {} differed",
+            self.solved, self.without_plan, self.tied, self.differed
+        )
+    }
+}
+
 // Whether the solver's cost and plan are those of the plain solver.
+// Stays: a cost kind says of two costs only which is lower, so equal costs are those of which neither is.
 fn agrees<K: CostKind>(kind: &K, cost: K::Cost, plan: &[u8; 5], least: &Least<K::Cost>) -> bool {
     !kind.is_lower(cost, least.cost) && !kind.is_lower(least.cost, cost) && *plan == least.plan
 }
 
-// Solves one study both ways.
+// Solves one study both ways, and counts how it came out.
 fn compare_one<K: CostKind>(
-    rt: &HostRuntime,
+    heap: Global,
     kind: &K,
     made: &Made,
-    counts: Counts,
-) -> anyhow::Result<Counts> {
+    counts: &mut Counts,
+) -> Result<(), AllocError> {
     let book = TableBook {
-        bytes: made.charges.as_slice(),
+        bytes: &made.charges,
     };
     let zero = kind.posting(Posting {
         cents: 0,
         minutes: 0,
     });
-    let mut working = Vec::new(rt.alloc());
-    for _ in 0..20 {
-        working.push(zero)?;
-    }
+    let mut working = vec![in heap; zero; 20]?;
     let mut plan = [0; 5];
-    let answer = solve(&made.study, &book, kind, &mut plan, working.as_mut_slice());
-    let mut counts = counts;
+    let answer = solve(&made.study, &book, kind, &mut plan, &mut working);
     match (answer, try_all(&made.study, &book, kind)) {
         (Ok(cost), Some(least)) => {
             counts.solved = counts.solved.saturating_add(1);
@@ -67,7 +75,7 @@ fn compare_one<K: CostKind>(
         (Err(_), None) => counts.without_plan = counts.without_plan.saturating_add(1),
         _ => counts.differed = counts.differed.saturating_add(1),
     }
-    Ok(counts)
+    Ok(())
 }
 
 // Solves the studies of one kind, and prints how they came out.
@@ -78,23 +86,12 @@ fn compare_kind<K: CostKind>(
     seed: u64,
 ) -> anyhow::Result<()> {
     let mut random = Random { state: seed };
-    let mut counts = Counts {
-        solved: 0,
-        without_plan: 0,
-        tied: 0,
-        differed: 0,
-    };
+    let mut counts = Counts::default();
     for _ in 0..STUDIES {
         let made = make(rt, &mut random)?;
-        counts = compare_one(rt, kind, &made, counts)?;
+        compare_one(rt.alloc(), kind, &made, &mut counts)?;
     }
-    let solved = counts.solved;
-    let without_plan = counts.without_plan;
-    let tied = counts.tied;
-    let differed = counts.differed;
-    println!(rt;
-        "{name}: {solved} solved, {without_plan} without a plan, {tied} tied, {differed} differed"
-    )?;
+    println!(rt; "{name}: {counts}")?;
     Ok(())
 }
 

@@ -14,12 +14,12 @@ pub(crate) struct Least<C: Copy> {
 
 // The next assignment in reading order; false after the last.
 fn advance(plan: &mut [u8; 5], count: usize, last: u8) -> bool {
-    for place in (0..count.min(5)).rev() {
-        if plan[place] < last {
-            plan[place] += 1;
+    for byte in plan[..count.min(5)].iter_mut().rev() {
+        if *byte < last {
+            *byte += 1;
             return true;
         }
-        plan[place] = 0;
+        *byte = 0;
     }
     false
 }
@@ -30,23 +30,18 @@ fn keep<K: CostKind>(
     best: Option<Least<K::Cost>>,
     plan: [u8; 5],
     cost: K::Cost,
-) -> Option<Least<K::Cost>> {
+) -> Least<K::Cost> {
     match best {
-        None => Some(Least {
-            cost,
-            plan,
-            tied: 1,
-        }),
-        Some(least) if kind.is_lower(cost, least.cost) => Some(Least {
-            cost,
-            plan,
-            tied: 1,
-        }),
-        Some(least) if kind.is_lower(least.cost, cost) => Some(least),
-        Some(least) => Some(Least {
+        Some(least) if kind.is_lower(least.cost, cost) => least,
+        Some(least) if !kind.is_lower(cost, least.cost) => Least {
             tied: least.tied.saturating_add(1),
             ..least
-        }),
+        },
+        _ => Least {
+            cost,
+            plan,
+            tied: 1,
+        },
     }
 }
 
@@ -59,7 +54,7 @@ fn try_one<B: ChargeBook, K: CostKind>(
     plan: &[u8; 5],
 ) -> Option<Least<K::Cost>> {
     match price(study, book, kind, plan) {
-        Ok(cost) => keep(kind, best, *plan, cost),
+        Ok(cost) => Some(keep(kind, best, *plan, cost)),
         Err(_) => best,
     }
 }
