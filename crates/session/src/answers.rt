@@ -3,104 +3,73 @@ use files::table_book::TableBook;
 use model::refusal::Refusal;
 use reports::refusal_line::refusal_line;
 use runs::call::Call;
+use std::fmt;
 use std::io::Write;
 
-// The line of a refusal.
-fn print_refusal(rt: &HostRuntime, why: &Refusal) -> anyhow::Result<()> {
-    let line = refusal_line(rt.alloc(), why)?;
-    rt.stdout().write_all(line.as_slice())?;
-    Ok(())
+// What a call that was accepted answered.
+#[derive(Clone, Copy)]
+enum Accepted<'a> {
+    Done(&'a str),
+    Entered(u8),
+    Plan { bytes: &'a [u8], cents: i64 },
 }
 
-// A word where the call was accepted.
-fn print_done(rt: &HostRuntime, done: &str, answer: &Result<(), Refusal>) -> anyhow::Result<()> {
-    match answer {
-        Ok(()) => {
-            println!(rt; "{done}")?;
-            Ok(())
-        }
-        Err(why) => print_refusal(rt, why),
-    }
-}
-
-// The bytes of a plan, and its cost.
-fn print_plan(rt: &HostRuntime, plan: &[u8], answer: &Result<i64, Refusal>) -> anyhow::Result<()> {
-    match answer {
-        Ok(cents) => {
-            print!(rt; "plan")?;
-            for byte in plan {
-                print!(rt; " {byte}")?;
+impl fmt::Display for Accepted<'_> {
+    fn fmt<W: fmt::Write>(&self, f: &mut fmt::Formatter<W>) -> fmt::Result {
+        match self {
+            Accepted::Done(done) => write!(f, "{done}"),
+            Accepted::Entered(number) => write!(f, "entered {number}"),
+            Accepted::Plan { bytes, cents } => {
+                write!(f, "plan")?;
+                for byte in *bytes {
+                    write!(f, " {byte}")?;
+                }
+                write!(f, " total {cents}")
             }
-            println!(rt; " total {cents}")?;
-            Ok(())
         }
-        Err(why) => print_refusal(rt, why),
     }
 }
 
-// The answer of a call, after which the study has so many components, where it had `count` before.
-fn print_answer(
-    rt: &HostRuntime,
-    call: &Call<TableBook<'_>, i64>,
+// The answer of a call, if it was made, where the study has `count` components before it.
+fn answer_of<'a>(
+    call: &'a Call<TableBook<'_>, i64>,
     count: usize,
-) -> anyhow::Result<usize> {
+) -> Option<Result<Accepted<'a>, Refusal>> {
+    match call {
+        Call::Open { answer, .. } => answer.map(|made| made.map(|()| Accepted::Done("opened"))),
+        Call::Enter { answer, .. } => answer.map(|made| made.map(|number| Accepted::Entered(
+            number,
+        ))),
+        Call::Require { answer, .. } => {
+            answer.map(|made| made.map(|()| Accepted::Done("required")))
+        }
+        Call::Strike { answer } => answer.map(|made| made.map(|()| Accepted::Done("struck"))),
+        Call::Price { plan, answer, .. } => {
+            let bytes = plan.as_slice();
+            answer.map(|made| made.map(|cents| Accepted::Plan { bytes, cents }))
+        }
+        Call::Solve { plan, answer, .. } => {
+            let bytes = &plan[..count.min(plan.len())];
+            answer.map(|made| made.map(|cents| Accepted::Plan { bytes, cents }))
+        }
+    }
+}
+
+// How many components the study has after a call, where it had `count` before.
+fn count_after(call: &Call<TableBook<'_>, i64>, count: usize) -> usize {
     match call {
         Call::Open {
-            answer: Some(answer),
+            answer: Some(Ok(())),
             ..
-        } => {
-            print_done(rt, "opened", answer)?;
-            Ok(if answer.is_ok() { 0 } else { count })
-        }
+        } => 0,
         Call::Enter {
             answer: Some(Ok(number)),
             ..
-        } => {
-            println!(rt; "entered {number}")?;
-            Ok(usize::from(*number) + 1)
-        }
-        Call::Enter {
-            answer: Some(Err(why)),
-            ..
-        } => {
-            print_refusal(rt, why)?;
-            Ok(count)
-        }
-        Call::Require {
-            answer: Some(answer),
-            ..
-        } => {
-            print_done(rt, "required", answer)?;
-            Ok(count)
-        }
+        } => usize::from(*number) + 1,
         Call::Strike {
-            answer: Some(answer),
-        } => {
-            print_done(rt, "struck", answer)?;
-            Ok(if answer.is_ok() {
-                count.saturating_sub(1)
-            } else {
-                count
-            })
-        }
-        Call::Price {
-            plan,
-            answer: Some(answer),
-            ..
-        } => {
-            print_plan(rt, plan.as_slice(), answer)?;
-            Ok(count)
-        }
-        Call::Solve {
-            plan,
-            answer: Some(answer),
-            ..
-        } => {
-            let end = count.min(plan.len());
-            print_plan(rt, &plan.as_slice()[0..end], answer)?;
-            Ok(count)
-        }
-        _ => Ok(count),
+            answer: Some(Ok(())),
+        } => count.saturating_sub(1),
+        _ => count,
     }
 }
 
@@ -111,7 +80,12 @@ pub(crate) fn print_answers(
 ) -> anyhow::Result<()> {
     let mut count = 0;
     for call in calls {
-        count = print_answer(rt, call, count)?;
+        match answer_of(call, count) {
+            Some(Ok(accepted)) => println!(rt; "{accepted}")?,
+            Some(Err(why)) => rt.stdout().write_all(&refusal_line(rt.alloc(), &why)?)?,
+            None => {}
+        }
+        count = count_after(call, count);
     }
     Ok(())
 }

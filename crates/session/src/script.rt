@@ -20,11 +20,7 @@ fn needs(discard: &str, repair: &str, moving: &str) -> anyhow::Result<Needs> {
 
 // The bytes of a plan.
 fn plan(heap: Global, words: &[&str]) -> anyhow::Result<Vec<u8>> {
-    let mut plan = Vec::new(heap);
-    for word in words {
-        plan.push(byte(word)?)?;
-    }
-    Ok(plan)
+    words.iter().map(|word| byte(word)).try_collect(heap)
 }
 
 // The call that the words of a line ask for.
