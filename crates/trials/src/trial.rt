@@ -16,6 +16,23 @@ use model::refusal::Refusal;
 use model::study::Study;
 use solving::solve::solve;
 
+// Solves the study by money with the table book of the file as it now stands. It is handed the file for writing, as the one
+// who changed it has it, and only reads it.
+// Stays: tried `solve` on `changed.bytes` in `trial`; of bytes lent as `&` from a field the check keeps the length alone.
+pub(crate) fn solve_by_file(
+    study: &Study,
+    file: &mut [u8],
+    plan: &mut [u8],
+    working: &mut [i64],
+) -> Result<i64, Refusal>
+    ensures answer { result ≡ (solved money int_lt (model study.now) (table_answers file.old) (length working.old) plan.old).answer }
+    ensures place { plan.new ≡ (solved money int_lt (model study.now) (table_answers file.old) (length working.old) plan.old).place }
+    ensures solves_least { Ready (model study.now) (table_answers file.old) (length working.old) plan.old → SolvesLeast money int_lt (model study.now) (table_answers file.old) plan.new result }
+    ensures file { file.new ≡ file.old }
+{
+    solve(study, &TableBook { bytes: file }, &Money, plan, working)
+}
+
 // The least plan, as `solve` answers it by money with the table book of the file, if one record had the cents of the change.
 // The file's bytes are back on every way out.
 pub fn trial(
@@ -32,8 +49,5 @@ pub fn trial(
         return Err(Refusal::NoChargeRecord);
     }
     let changed = Changed::set(file, change.place(), change.bytes());
-    let book = TableBook {
-        bytes: changed.bytes,
-    };
-    solve(study, &book, &Money, plan, working)
+    solve_by_file(study, changed.bytes, plan, working)
 }
