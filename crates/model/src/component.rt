@@ -23,6 +23,7 @@ pub struct Component {
 }
 
 // The number that marks a component without a parent.
+// Stays: a record holds this number, and `enter` and a price book's `add` are handed what the record holds (a).
 pub const NO_PARENT: u8 = 255;
 
 // The parent that a number names: none for 255.

@@ -10,6 +10,7 @@ use model::component::{Component, Needs};
 use model::question::RepairOption;
 
 // The start is 0 where the component is not reached.
+// Stays: 0 is what `start_under` says there, as the byte 0 of a plan does; every contract on plans speaks of that number (a).
 #[derive(Clone, Copy)]
 pub(crate) struct Route {
     pub start: u8,

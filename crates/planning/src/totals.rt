@@ -51,6 +51,7 @@ impl Draft<'_> {
 }
 
 // Adds what a component uses at the echelons 1 to 4.
+// Stays: kind and sum go side by side here and below; a struct of both would hide the sum that is answered, which `Adds` names.
 fn plus_component<K: CostKind>(
     kind: &K,
     sum: Option<K::Cost>,
@@ -129,7 +130,7 @@ pub fn is_needed(study: &Study, plan: &[u8], resource: u8, echelon: u8) -> bool
 }
 
 // Adds the posting of what is used, where it is open.
-fn plus_used<K: CostKind>(
+pub fn plus_used<K: CostKind>(
     kind: &K,
     sum: Option<K::Cost>,
     used: bool,

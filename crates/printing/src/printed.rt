@@ -68,6 +68,6 @@ pub(crate) fn report_plan(
     ensures { Prints result (Ok (report_text (model study.now) plan.now cents)) }
 {
     let mut place = [0; LONGEST_REPORT];
-    let length = report(study, plan, cents, &mut place).map_err(IntakeError::Refused)?;
+    let length = report(study, plan, cents, &mut place)?;
     Ok(place[0..length].to_vec(heap)?)
 }

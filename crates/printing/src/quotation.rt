@@ -16,9 +16,7 @@ fn quotation(heap: Global, file: &[u8], plan: &[u8]) -> Result<Vec<u8>, IntakeEr
     ensures { Prints result (quoted file.now plan.now) }
 {
     let study = study_of(heap, file)?;
-    let cents = price(&study, &TableBook { bytes: file }, &Money, plan).map_err(
-        IntakeError::Refused,
-    )?;
+    let cents = price(&study, &TableBook { bytes: file }, &Money, plan)?;
     report_plan(heap, &study, plan, cents)
 }
 

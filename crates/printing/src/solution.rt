@@ -20,7 +20,7 @@ pub(crate) fn solve_study(heap: Global, study: &Study, file: &[u8]) -> Result<Ve
     let mut plan = [0; 60];
     let mut working = [0; 240];
     let book = TableBook { bytes: file };
-    let cents = solve(study, &book, &Money, &mut plan, &mut working).map_err(IntakeError::Refused)?;
+    let cents = solve(study, &book, &Money, &mut plan, &mut working)?;
     report_plan(heap, study, &plan, cents)
 }
 

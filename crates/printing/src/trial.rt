@@ -25,7 +25,7 @@ fn try_change(
 {
     let mut plan = [0; 60];
     let mut working = [0; 240];
-    let cents = trial(study, file, change, &mut plan, &mut working).map_err(IntakeError::Refused)?;
+    let cents = trial(study, file, change, &mut plan, &mut working)?;
     report_plan(heap, study, &plan, cents)
 }
 
