@@ -1,5 +1,5 @@
 // The search over marks of pairs.
-ghost use Rattle.std.specs.Prelude.{◌≡◌, ◌≤◌, length};
+ghost use Rattle.std.specs.Prelude.{◌≤◌, length};
 ghost use Rattle.model.specs.Studies.{model};
 ghost use Rattle.solving.specs.Working.{cells};
 ghost use Rattle.solving.specs.Finds.{Searches};

@@ -1,5 +1,5 @@
 // Taking one component: the best way on from each echelon is noted, and added to the sums of its parent.
-ghost use Rattle.std.specs.Prelude.{◌≡◌, ◌<◌, ◌≤◌, length};
+ghost use Rattle.std.specs.Prelude.{◌<◌, ◌≤◌, length};
 ghost use Rattle.model.specs.Studies.{model};
 ghost use Rattle.plans.specs.Questions.{count};
 ghost use Rattle.solving.specs.Working.{cells, view};
