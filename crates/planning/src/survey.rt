@@ -48,51 +48,55 @@ fn learned(times: u32, answer: Answer) -> Result<Option<Posting>, Fault>
     }
 }
 
-// Asks for one option of a component at an echelon.
-fn option_posting<B: ChargeBook>(
-    book: &B,
-    rate: u32,
+// A component whose options are asked for: of which book, its number and rate, and the last echelon.
+#[derive(Drop)]
+struct Options<'a, B> {
+    book: &'a B,
     number: u8,
-    echelon: u8,
-    option: RepairOption,
-) -> Result<Option<Posting>, Fault>
-    requires { rate ≤ 1_000_000 }
-    ensures { Learned rate (B.meaning book.now (OfOption number echelon option)) result }
-{
-    learned(
-        rate,
-        book.ask(Question::OfOption {
-            component: number,
-            echelon,
-            option,
-        }),
-    )
+    rate: u32,
+    last: u8,
+    ghost few_failures: { rate ≤ 1_000_000 },
+    ghost few_echelons: { last ≤ 4 },
 }
 
-// Asks for a component's options at one echelon: discard, repair and, unless it is the last, move.
-fn choices_at<B: ChargeBook>(
-    book: &B,
-    last: u8,
-    rate: u32,
-    number: u8,
-    echelon: u8,
-) -> Result<Choices, Fault>
-    requires { rate ≤ 1_000_000 }
-    ensures { AskedChoices (B.meaning book.now) last rate number echelon result }
-{
-    let ask = |option| option_posting(book, rate, number, echelon, option);
-    let discard = ask(RepairOption::Discard)?;
-    let repair = ask(RepairOption::Repair)?;
-    let moving = if echelon < last {
-        ask(RepairOption::Move)?
-    } else {
-        None
-    };
-    Ok(Choices {
-        discard,
-        repair,
-        moving,
-    })
+impl<B: ChargeBook> Options<'_, B> {
+    // Asks for one option at an echelon.
+    fn posting(&self, echelon: u8, option: RepairOption) -> Result<Option<Posting>, Fault>
+        ensures { Learned self.now.rate (B.meaning self.now.book.now (OfOption self.now.number echelon option)) result }
+    {
+        let component = self.number;
+        let question = Question::OfOption {
+            component,
+            echelon,
+            option,
+        };
+        learned(self.rate, self.book.ask(question))
+    }
+
+    // Asks for the options at one echelon: discard, repair and, unless it is the last, move.
+    fn at(&self, echelon: u8) -> Result<Choices, Fault>
+        ensures { AskedChoices (B.meaning self.now.book.now) self.now.last self.now.rate self.now.number echelon result }
+    {
+        let discard = self.posting(echelon, RepairOption::Discard)?;
+        let repair = self.posting(echelon, RepairOption::Repair)?;
+        let moving = if echelon < self.last {
+            self.posting(echelon, RepairOption::Move)?
+        } else {
+            None
+        };
+        Ok(Choices {
+            discard,
+            repair,
+            moving,
+        })
+    }
+
+    // Asks for the options at each echelon.
+    fn row(&self) -> Result<ByEchelon<Choices>, Fault>
+        ensures { AskedOptionRow (B.meaning self.now.book.now) self.now.last self.now.rate self.now.number result }
+    {
+        asked(self.last, [NO_CHOICES; 4], |place| self.at(place + 1))
+    }
 }
 
 // Asks for a resource at one echelon. Its charge is for a year, and a posting counts a thousand.
@@ -124,24 +128,6 @@ fn asked<T: Copy, F: Fn(u8) -> Result<T, Fault>, const N: usize>(
     Ok(filled)
 }
 
-// Asks for a component's options at each echelon.
-fn option_row<B: ChargeBook>(
-    book: &B,
-    last: u8,
-    rate: u32,
-    number: u8,
-) -> Result<ByEchelon<Choices>, Fault>
-    requires few { last ≤ 4 }
-    requires rate { rate ≤ 1_000_000 }
-    ensures { AskedOptionRow (B.meaning book.now) last rate number result }
-{
-    asked(
-        last,
-        [NO_CHOICES; 4],
-        |place| choices_at(book, last, rate, number, place + 1),
-    )
-}
-
 // Asks for the options of each component.
 // Stays: a loop of its own, over the components; `asked` would look each of them up again by its number.
 fn option_rows<B: ChargeBook>(study: &Study, book: &B) -> Result<[ByEchelon<Choices>; 60], Fault>
@@ -149,7 +135,13 @@ fn option_rows<B: ChargeBook>(study: &Study, book: &B) -> Result<[ByEchelon<Choi
 {
     let mut rows = [[NO_CHOICES; 4]; 60];
     for (number, component) in study.components().iter().enumerate() {
-        rows[number] = option_row(book, study.echelons(), component.rate, number as u8)?;
+        let options = Options {
+            book,
+            number: number as u8,
+            rate: component.rate,
+            last: study.echelons(),
+        };
+        rows[number] = options.row()?;
     }
     Ok(rows)
 }
