@@ -5,6 +5,7 @@ use costs::posting::Posting;
 pub type ByEchelon<T> = [T; 4];
 
 // The postings of one component at one echelon, none where the option is not open.
+// Stays: `Needs` has these three fields too, but as masks with methods of their own; one type for both would share no function (d).
 #[derive(Clone, Copy)]
 pub struct Choices {
     pub discard: Option<Posting>,
@@ -13,6 +14,7 @@ pub struct Choices {
 }
 
 // A row for each component, and one for each resource: its posting, none where it is not open.
+// Stays: rows for the most that a study may have, since a survey needs no memory and cannot fail for want of it (a).
 #[derive(Clone, Copy)]
 pub struct Survey {
     pub options: [ByEchelon<Choices>; 60],

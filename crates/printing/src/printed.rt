@@ -55,6 +55,7 @@ pub(crate) fn printed(
 }
 
 // Room for the report of any study: 16 bytes for each of 60 components, and 32 more.
+// Stays: a report is written into a place before its length is known; a vector of that room would only be cut again (d).
 const LONGEST_REPORT: usize = 992;
 
 // The report of a plan that was priced.

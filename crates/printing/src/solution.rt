@@ -17,6 +17,7 @@ use std::alloc::{AllocError, Global};
 pub(crate) fn solve_study(heap: Global, study: &Study, file: &[u8]) -> Result<Vec<u8>, IntakeError>
     ensures { Prints result (solution_for file.now (Ok (model study.now))) }
 {
+    // Stays: places for every study; vectors of this study's size would be two more calls that can fail (d).
     let mut plan = [0; 60];
     let mut working = [0; 240];
     let book = TableBook { bytes: file };

@@ -23,6 +23,7 @@ fn try_change(
     ensures text { Prints result (trial_text file.old change.record change.cents (model study.now)) }
     ensures file { file.new ≡ file.old }
 {
+    // Stays: places for every study; vectors of this study's size would be two more calls that can fail (d).
     let mut plan = [0; 60];
     let mut working = [0; 240];
     let cents = trial(study, file, change, &mut plan, &mut working)?;

@@ -19,6 +19,7 @@ fn next_under(study: &Study, parent: Option<u8>, from: usize) -> Option<usize>
 }
 
 // Puts an entry: the component's line, and the list under it.
+// Stays: study and plan are handed on between these two alone; a struct of them would be made for one call of `report` (d).
 #[cycle(put_entry_put_list)]
 fn put_entry(study: &Study, plan: &[u8], number: usize, writer: &mut Writer<'_>)
     requires component_has_byte { (number < count (model study.now)) × (count (model study.now) ≤ length plan.now) }

@@ -27,6 +27,8 @@ fn held_at(line: &[Mark; 4]) -> [bool; 4]
 }
 
 // Adds the held pairs, by resource.
+// Stays: planning goes over the needed pairs so; one function for both would be public and have to require that the test which it
+// is handed may be called (a).
 fn plus_held<K: CostKind>(
     problem: &Problem<K>,
     cost: Option<K::Cost>,

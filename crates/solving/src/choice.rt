@@ -26,6 +26,7 @@ fn cost_precedes<K: CostKind>(kind: &K, a: K::Cost, x: u8, b: K::Cost, y: u8) ->
 }
 
 // Whether the first choice comes before the second, by cost and then by rank.
+// Stays: a cost kind says which of two costs is lower and is no type with an order, so `<` cannot compare these (d).
 fn precedes<K: CostKind>(kind: &K, a: Choice<K::Cost>, b: Choice<K::Cost>) -> bool
     ensures { Precedes K.adding K.lower a b result }
 {

@@ -17,6 +17,7 @@ fn reads_before(first: &[u8], second: &[u8]) -> bool
 }
 
 // Whether the first comes before the second. What has no cost comes before nothing.
+// Stays: a cost kind says which of two costs is lower and is no type with an order, so `<` cannot compare these (d).
 pub(crate) fn is_ahead<K: CostKind>(
     kind: &K,
     first: &Best<K::Cost>,

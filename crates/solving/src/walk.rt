@@ -48,6 +48,7 @@ pub(crate) fn walk<K: CostKind>(
     ensures { Walks K.adding K.lower (model problem.now.study.now) problem.now.survey.now marks.now result }
 {
     let shut = shut_masks(marks, problem.study.resources());
+    // Stays: tables for the most components and echelons, since a walk needs no memory (a).
     let mut tags = [Tag::Nothing; 240];
     let mut notes = [[0; 4]; 60];
     let mut plan = [0; 60];
