@@ -9,7 +9,6 @@ use costs::kind::CostKind;
 use costs::posting::Posting;
 
 // Stays: three cases, of which two are without a cost, so neither an `Option` nor a `Result`.
-//
 // Nothing is posted yet, or the postings have a cost, or something is used that is not open.
 #[derive(Clone, Copy)]
 pub(crate) enum Sum<C: Copy> {
