@@ -26,16 +26,9 @@ pub(crate) fn solve_study(heap: Global, study: &Study, file: &[u8]) -> Result<Ve
 }
 
 // Takes the file in, and solves the study that it makes.
-fn solution_of(heap: Global, file: &[u8]) -> Result<Vec<u8>, IntakeError>
-    ensures { Prints result (solution file.now) }
-{
-    let study = study_of(heap, file)?;
-    solve_study(heap, &study, file)
-}
-
-// The solution of a file.
 pub fn solve_file(heap: Global, file: &[u8]) -> Result<Printed, AllocError>
     ensures { IfOk result (λ q. shown q ≡ solution file.now) }
 {
-    printed(heap, solution_of(heap, file))
+    let text = study_of(heap, file).and_then(|study| solve_study(heap, &study, file));
+    printed(heap, text)
 }

@@ -1,3 +1,4 @@
+pub mod Accepted
 pub mod Depths
 pub mod Ends
 pub mod Entries

@@ -1,7 +1,6 @@
 use Rattle.std.proofs.Common.{◌≡◌, ℕ, ◌+◌, ◌-◌, ◌*◌, ◌≤◌, List, length, take, replicate, Ok, Result, refl, ap, ◌∙◌, arith, w64}
 use Rattle.std.proofs.lemmas.List.{take_at, length-replicate}
 use Rattle.std.proofs.lemmas.Int.{to_z-of_z}
-use Rattle.std.proofs.lemmas.Result.{MatchResult-at_ok}
 use Rattle.model.specs.Studies.{model}
 use Rattle.model.proofs.Limited.{limited}
 use Rattle.plans.specs.Questions.{count}
@@ -23,7 +22,7 @@ returns c =
     let limits = limited c.args.study.now in
     let room : 16 * count s + 32 ≤ length place = omega (arith, limits.few_components, length-replicate {A = ℕ} 992 0) in
     let all = c.report.ensures ∙ ap (λ x. reported s plan x place) (to_z-of_z w64 z c.ranges.cents) ∙ accepted s plan z place c.requires room in
-    let answer : c.map_err.result ≡ Ok (length text) = MatchResult-at_ok _ _ (length text) (ap (λ p. p.0) all) c.map_err.ensures.cases in
+    let answer : c.report.result ≡ Ok (length text) = ap (λ p. p.0) all in
     let size = same_value _ c.in_ok-length.length (length text) c.in_ok-length.was answer in
     let cut : c.in_ok-length.length - 0 ≡ length text = omega (arith, size) in
     ap Ok (c.in_ok-to_vec.ensures.items_if_clones_equal (λ x y e. e) ∙ ap (λ l. take (c.in_ok-length.length - 0) l) (ap (λ p. p.1) all) ∙ ap (λ k. take k (at_front text place)) cut ∙ take_at text _ (length text) refl)
