@@ -9,4 +9,5 @@ pub(crate) enum Mark {
 }
 
 // A mark for each resource, and there for each echelon.
+// Stays: a named form, marks by resource and echelon, which need no memory.
 pub(crate) type Marks = [[Mark; 4]; 8];

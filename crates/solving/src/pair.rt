@@ -27,10 +27,14 @@ pub(crate) fn free_pair(study: &Study, plan: &[u8], marks: &Marks) -> Option<(us
 }
 
 // The marks with one pair marked anew.
-pub(crate) fn marked(mut marks: Marks, resource: usize, place: usize, mark: Mark) -> Marks
+pub(crate) fn marked(marks: Marks, resource: usize, place: usize, mark: Mark) -> Marks
     requires { (resource < 8) × (place < 4) }
     ensures { result ≡ marking marks resource place mark }
 {
-    marks[resource][place] = mark;
-    marks
+    // Stays: a named form, a row by value in a local, copied for each set tried.
+    let mut next = marks;
+    let mut line = next[resource];
+    line[place] = mark;
+    next[resource] = line;
+    next
 }
