@@ -1,5 +1,6 @@
 -- Postings added to a sum: one, and one list after another.
 use Rattle.std.proofs.Common.{◌≡◌, ℕ, ◌+◌, ◌≤◌, Bool, List, [], ◌∷◌, ◌++◌, length, Some, None, Option, sym, refl, ap, ◌∙◌, subst, append_assoc, append-nil, add-one, arith, length-append}
+use Rattle.std.specs.Option.{MatchOption}
 use Rattle.std.specs.List.{AllByRecursion}
 use Rattle.costs.specs.declared.posting.Posting.{Posting}
 use Rattle.costs.specs.Kinds.{Adding, SumOf, one, join}
@@ -76,11 +77,11 @@ module _ {C : Type 0} (k : Adding C) where
   summed_push : (ps : List Posting) (sum : Option C) (p : Posting) → sum ≡ summed k ps → plus_posting k sum p ≡ summed k (ps ++ p ∷ [])
   summed_push ps sum p is = ap (λ o. plus_posting k o p) is ∙ sym (sums_append k None ps (p ∷ []))
 
-  pub adds_first : (sum : Option C) (p : Posting) (x : C) → sum ≡ None → (Within p → x ≡ k.post p) → Adds k sum (p ∷ []) (Some x)
+  adds_first : (sum : Option C) (p : Posting) (x : C) → sum ≡ None → (Within p → x ≡ k.post p) → Adds k sum (p ∷ []) (Some x)
   adds_first sum p x none posts ps is fit =
       ap Some (posts (all_parts Within ps (p ∷ []) fit.0).1.0) ∙ ap (λ o. plus_posting k o p) (sym none) ∙ summed_push ps sum p is
 
-  pub adds_next : (sum : Option C) (p : Posting) (a x r : C) → sum ≡ Some a → (Within p → x ≡ k.post p) → ((m n : ℕ) → SumOf k m a → SumOf k n x → m + n ≤ most → r ≡ k.plus a x) → Adds k sum (p ∷ []) (Some r)
+  adds_next : (sum : Option C) (p : Posting) (a x r : C) → sum ≡ Some a → (Within p → x ≡ k.post p) → ((m n : ℕ) → SumOf k m a → SumOf k n x → m + n ≤ most → r ≡ k.plus a x) → Adds k sum (p ∷ []) (Some r)
   adds_next sum p a x r some posts adds ps is fit =
       let parts = all_parts Within ps (p ∷ []) fit.0 in
       let x-is = posts parts.1.0 in
@@ -88,6 +89,10 @@ module _ {C : Type 0} (k : Adding C) where
       let of_x = subst (SumOf k 1) (sym x-is) (one p parts.1.0) in
       let r-is = adds (length ps) 1 of-a of_x (omega (arith, fit.1, length-append ps (p ∷ []))) in
       ap Some (r-is ∙ ap (k.plus a) x-is) ∙ ap (λ o. plus_posting k o p) (sym some) ∙ summed_push ps sum p is
+
+  pub adds_one : (sum : Option C) (p : Posting) (x r : C) (Made : C → Type 0) → (Within p → x ≡ k.post p) → MatchOption sum (r ≡ x) Made → ((a : C) → Made a → (m n : ℕ) → SumOf k m a → SumOf k n x → m + n ≤ most → r ≡ k.plus a x) → Adds k sum (p ∷ []) (Some r)
+  adds_one None p x r Made posts made sums = adds_first None p r refl (λ w. made ∙ posts w)
+  adds_one (Some a) p x r Made posts made sums = adds_next (Some a) p a x r refl posts (sums a made)
 
   pub adds_none : (sum : Option C) → Adds k sum [] sum
   adds_none sum ps is fit = is ∙ ap (summed k) (sym (append-nil ps))

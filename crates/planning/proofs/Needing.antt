@@ -1,5 +1,7 @@
 -- Whether some component needs a resource: read off the components one after another.
-use Rattle.std.proofs.Common.{◌≡◌, ℕ, zero, suc, ◌+◌, ◌<◌, Bool, true, false, ◌&&◌, ◌||◌, List, length, get_or, ap, ◌∙◌, subst, inl, inr, add-one, arith}
+use Rattle.std.proofs.Common.{◌≡◌, ℕ, zero, suc, ◌+◌, ◌<◌, Bool, true, false, ◌&&◌, ◌||◌, List, [], ◌∷◌, length, get_or, ap, ◌∙◌, subst, inl, inr, add-one, arith}
+use Rattle.std.proofs.Math.Bool.{or-false}
+use Rattle.std.specs.List.{list_any}
 use Rattle.std.proofs.lemmas.List.{get_or_default}
 use Rattle.std.proofs.lemmas.Bool.{cases_lt, or_from, or_left, or_right}
 use Rattle.model.specs.declared.component.Component.{Component}
@@ -37,3 +39,6 @@ some_there f (suc n) i h here =
       | inl l ↦ or_left (some_below f n) (f n) (some_there f n i l here)
       | inr g ↦ let e : i ≡ n = omega arith in or_right (some_below f n) (f n) (subst (λ j. f j ≡ true) e here)
     ]
+
+pub any_of_three : {A : Type 0} (f : A → Bool) (x y z : A) → list_any f (x ∷ y ∷ z ∷ []) ≡ f x || (f y || f z)
+any_of_three f x y z = ap (λ b. f x || (f y || b)) (or-false (f z))

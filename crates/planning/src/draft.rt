@@ -1,8 +1,8 @@
-// A plan that is put to its study, with the survey of the book.
+// A plan that is being priced, beside its study and the survey of the book.
+// A byte past its end counts as 0.
 use crate::table::Survey;
 use model::study::Study;
 
-// The plan has a byte for each component.
 #[derive(Clone, Copy)]
 pub(crate) struct Draft<'a> {
     pub study: &'a Study,

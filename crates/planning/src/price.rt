@@ -31,7 +31,7 @@ pub fn price<B: ChargeBook, K: CostKind>(
     let draft = Draft {
         study,
         survey: &survey,
-        plan: &plan[0..count],
+        plan: &plan[..count],
     };
     draft.first_objection()?;
     draft.total(kind).ok_or(Refusal::NoComponent)

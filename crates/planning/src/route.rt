@@ -17,12 +17,12 @@ pub(crate) struct Route {
     pub byte: u8,
 }
 
-// The final echelon that a byte names.
-fn final_of(byte: u8) -> u8
-    ensures { result ≡ final byte }
-{
-    byte / 2 + byte % 2
-}
+// All that can be done with a component.
+const OPTIONS: [RepairOption; 3] = [
+    RepairOption::Discard,
+    RepairOption::Repair,
+    RepairOption::Move,
+];
 
 impl Route {
     // Reads the way of a component, by its number, off the plan.
@@ -40,7 +40,7 @@ impl Route {
     pub(crate) fn last(self) -> u8
         ensures { result ≡ final self.byte }
     {
-        final_of(self.byte)
+        self.byte.div_ceil(2)
     }
 
     // Whether the component uses that option at that echelon.
@@ -67,8 +67,8 @@ impl Route {
     pub(crate) fn needs(self, needs: Needs, echelon: u8, resource: u8) -> bool
         ensures { result ≡ (uses_at self.start self.byte echelon Discard && needs_resource needs Discard resource) || ((uses_at self.start self.byte echelon Repair && needs_resource needs Repair resource) || (uses_at self.start self.byte echelon Move && needs_resource needs Move resource)) }
     {
-        self.needs_by(needs, echelon, resource, RepairOption::Discard)
-            || self.needs_by(needs, echelon, resource, RepairOption::Repair)
-            || self.needs_by(needs, echelon, resource, RepairOption::Move)
+        OPTIONS
+            .iter()
+            .any(|option| self.needs_by(needs, echelon, resource, *option))
     }
 }

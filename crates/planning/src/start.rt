@@ -10,6 +10,7 @@ pub(crate) fn byte_of(plan: &[u8], number: usize) -> u8
 }
 
 // The echelon at which a byte repairs, 0 where it does not.
+// Stays: 0 is what the definition of `start_under` says there, and what the byte 0 of a plan says too (a).
 fn repaired_at(byte: u8) -> u8
     ensures { result ≡ repaired_at byte }
 {
@@ -20,8 +21,5 @@ fn repaired_at(byte: u8) -> u8
 pub fn start_under(plan: &[u8], parent: Option<u8>) -> u8
     ensures { result ≡ start_under plan.now parent }
 {
-    match parent {
-        None => 1,
-        Some(parent) => repaired_at(byte_of(plan, usize::from(parent))),
-    }
+    parent.map_or(1, |parent| repaired_at(byte_of(plan, usize::from(parent))))
 }

@@ -48,9 +48,9 @@ fn learned(times: u32, answer: Answer) -> Result<Option<Posting>, Fault>
     }
 }
 
-// A component whose options are asked for: of which book, its number and rate, and the last echelon.
+// Asks a book for the options of one component, whose number and rate it keeps beside the last echelon.
 #[derive(Drop)]
-struct Options<'a, B> {
+struct Inquiry<'a, B> {
     book: &'a B,
     number: u8,
     rate: u32,
@@ -59,7 +59,7 @@ struct Options<'a, B> {
     ghost few_echelons: { last ≤ 4 },
 }
 
-impl<B: ChargeBook> Options<'_, B> {
+impl<B: ChargeBook> Inquiry<'_, B> {
     // Asks for one option at an echelon.
     fn posting(&self, echelon: u8, option: RepairOption) -> Result<Option<Posting>, Fault>
         ensures { Learned self.now.rate (B.meaning self.now.book.now (OfOption self.now.number echelon option)) result }
@@ -135,13 +135,13 @@ fn option_rows<B: ChargeBook>(study: &Study, book: &B) -> Result<[ByEchelon<Choi
 {
     let mut rows = [[NO_CHOICES; 4]; 60];
     for (number, component) in study.components().iter().enumerate() {
-        let options = Options {
+        let inquiry = Inquiry {
             book,
             number: number as u8,
             rate: component.rate,
             last: study.echelons(),
         };
-        rows[number] = options.row()?;
+        rows[number] = inquiry.row()?;
     }
     Ok(rows)
 }

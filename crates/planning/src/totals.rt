@@ -104,7 +104,7 @@ fn plus_resource<K: CostKind>(
 pub fn plus_row<K: CostKind>(
     kind: &K,
     sum: Option<K::Cost>,
-    used: [bool; 4],
+    used: ByEchelon<bool>,
     row: &ByEchelon<Option<Posting>>,
 ) -> Option<K::Cost>
     ensures { Adds K.adding sum (of_resource (used_at used) row.now) result }
@@ -149,8 +149,5 @@ fn plus<K: CostKind>(kind: &K, sum: Option<K::Cost>, posting: Posting) -> Option
     ensures { Adds K.adding sum (posting ∷ []) result }
 {
     let next = kind.posting(posting);
-    match sum {
-        None => Some(next),
-        Some(so_far) => Some(kind.sum(so_far, next)),
-    }
+    Some(sum.map_or(next, |so_far| kind.sum(so_far, next)))
 }

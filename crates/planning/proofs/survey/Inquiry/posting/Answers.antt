@@ -1,5 +1,5 @@
 use Rattle.planning.proofs.Posts.{option_posts}
-use Rattle.planning.proofs.survey.Options.posting.Goals as goal
+use Rattle.planning.proofs.survey.Inquiry.posting.Goals as goal
 
 pub learned-requires : goal.learned-requires
 learned-requires g c =

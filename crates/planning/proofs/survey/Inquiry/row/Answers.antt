@@ -3,7 +3,7 @@ use Rattle.plans.specs.Questions.{echelon_questions, component_questions}
 use Rattle.planning.specs.Surveys.{no_choices}
 use Rattle.planning.specs.Asking.{AskedChoices, offered}
 use Rattle.planning.proofs.Filled.{row_asked}
-use Rattle.planning.proofs.survey.Options.row.Goals as goal
+use Rattle.planning.proofs.survey.Inquiry.row.Goals as goal
 
 pub returns : goal.returns
 returns g c =
