@@ -1,7 +1,8 @@
 -- Tests of every element of a list, and of every number below a limit.
 use Rattle.std.proofs.Common.{◌≡◌, ℕ, zero, suc, ◌+◌, ◌<◌, ◌≤◌, Bool, true, false, ◌&&◌, List, [], ◌∷◌, ◌++◌, length, get_or, sym, refl, ap, ◌∙◌, inl, inr, arith}
 use Rattle.std.specs.Bool.{MatchBool}
-use Rattle.std.specs.List.{zip, range_with_len, AllWithin, HoldsAt}
+use Rattle.std.specs.List.{list_all, zip, range_with_len, AllWithin, HoldsAt}
+use Rattle.std.proofs.Math.Bool.{and-true}
 use Rattle.std.proofs.lemmas.Slice.Zip.{get_or-zip, length-zip}
 use Rattle.std.proofs.lemmas.List.FromFn.{get_or-range_with_len, length-range_with_len}
 use Rattle.std.proofs.lemmas.Bool.{cases_lt, and_from, and_left, and_right}
@@ -12,9 +13,8 @@ and_assoc : (x y z : Bool) → ((x && y) && z) ≡ (x && (y && z))
 and_assoc true y z = refl
 and_assoc false y z = refl
 
-pub and_true : (x : Bool) → (x && true) ≡ x
-and_true true = refl
-and_true false = refl
+pub all_of_three : {A : Type 0} (f : A → Bool) (x y z : A) → list_all f (x ∷ y ∷ z ∷ []) ≡ f x && (f y && f z)
+all_of_three f x y z = ap (λ b. f x && (f y && b)) (and-true (f z))
 
 pub and_same : {x y v w : Bool} → x ≡ v → y ≡ w → (x && y) ≡ (v && w)
 and_same {x} {y} {v} {w} p q = ap (λ b. b && y) p ∙ ap (λ b. v && b) q
@@ -78,5 +78,5 @@ below_more f g m zero l same passes = let e : m ≡ 0 = omega arith in ap (every
 below_more f g m (suc n) l same passes =
     elim (cases_lt n m) [
       | inl h ↦ let e : m ≡ suc n = omega arith in below_same f g (suc n) (λ k b. same k (omega arith)) ∙ ap (every_below g) (sym e)
-      | inr h ↦ ap (λ b. every_below f n && b) (passes n h) ∙ and_true (every_below f n) ∙ below_more f g m n h same passes
+      | inr h ↦ ap (λ b. every_below f n && b) (passes n h) ∙ and-true (every_below f n) ∙ below_more f g m n h same passes
     ]

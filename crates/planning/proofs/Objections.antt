@@ -2,6 +2,7 @@
 use Rattle.std.proofs.Common.{◌≡◌, ℕ, ◌*◌, ◌<◌, ◌≤◌, Bool, leb, List, get_or, Option, sym, ap, ◌∙◌, inl, inr}
 use Rattle.std.proofs.lemmas.Bool.{leb-true, cases_Bool, cond-false}
 use Rattle.model.specs.declared.component.Component.{Component}
+use Rattle.model.specs.declared.component.Needs.{Needs}
 use Rattle.model.specs.declared.refusal.Refusal.{Refusal}
 use Rattle.model.specs.Books.{Book}
 use Rattle.model.specs.Studies.{Model, Limits}
@@ -18,11 +19,11 @@ use Rattle.planning.specs.OpenRows.{options_open, resources_open}
 use Rattle.planning.specs.Objections.{first_failed}
 use Rattle.planning.proofs.OpenRows.{route_of, options_same, resources_same}
 
-abbrev route : ℕ → ℕ → Route
-route a b = record { start = a; byte = b }
+abbrev route : ℕ → ℕ → Needs → Route
+route a b n = record { start = a; byte = b; needs = n }
 
-same_route : (w : Route) (a b : ℕ) → w.start ≡ a → w.byte ≡ b → w ≡ route a b
-same_route w a b p q = ap (λ x. route x w.byte) p ∙ ap (route a) q
+same_route : (w : Route) (a b : ℕ) (n : Needs) → w.start ≡ a → w.byte ≡ b → w.needs ≡ n → w ≡ route a b n
+same_route w a b n p q r = ap (λ x. route x w.byte w.needs) p ∙ ap (λ y. route a y w.needs) q ∙ ap (route a b) r
 
 -- the rows say the same of the options and of the resources, unless the byte is too large
 failed_same : (i echelons : ℕ) (w : Route) (o p q r : Bool) → (w.byte ≤ 2 * echelons → (o ≡ p) × (q ≡ r)) → first_failed i echelons w o q ≡ first_failed i echelons w p r
@@ -40,19 +41,19 @@ module _ (s : Model) (b : Book) (t : Survey) (plan : List ℕ) (i : ℕ) (limits
   abbrev row_options : Route → Bool
   row_options w = options_open w (get_or t.options i no_options)
 
-  abbrev row_resources : Route → Component → ℕ → Bool
-  row_resources w x n = resources_open w x.needs t.resources n
+  abbrev row_resources : Route → ℕ → Bool
+  row_resources w n = resources_open w t.resources n
 
-  abbrev failed : ℕ → Route → Component → ℕ → Option Refusal
-  failed e w x n = first_failed i e w (row_options w) (row_resources w x n)
+  abbrev failed : ℕ → Route → ℕ → Option Refusal
+  failed e w n = first_failed i e w (row_options w) (row_resources w n)
 
-  rows_same : failed s.echelons (route_of s plan i) (component s i) s.resources ≡ objection s b plan i
+  rows_same : failed s.echelons (route_of s plan i) s.resources ≡ objection s b plan i
   rows_same =
       let w : Route = route_of s plan i in
       failed_same i s.echelons w
       (row_options w)
       (every (λ q. open_if b (uses s plan q) q) (component_questions s.echelons i))
-      (row_resources w (component s i) s.resources)
+      (row_resources w s.resources)
       (every (λ q. open_if b (needs_pair s plan i q) q) (pair_questions s))
       (λ few. (
         ap (options_open w) (kept.options i l) ∙ options_same s b plan i limits.few_echelons few,
@@ -60,11 +61,11 @@ module _ (s : Model) (b : Book) (t : Survey) (plan : List ℕ) (i : ℕ) (limits
       ))
 
   -- the questions, put by the component's way and its rows, give its objection
-  pub objection_same : (x : Component) (w : Route) (e n : ℕ) (o q : Bool) → x ≡ component s i → w.start ≡ start_under plan x.parent → w.byte ≡ byte plan i → e ≡ s.echelons → n ≡ s.resources → o ≡ row_options w → q ≡ row_resources w x n → first_failed i e w o q ≡ objection s b plan i
-  objection_same x w e n o q same-x starts bytes same-e same-n options resources =
+  pub objection_same : (x : Component) (w : Route) (e n : ℕ) (o q : Bool) → x ≡ component s i → w.start ≡ start_under plan x.parent → w.byte ≡ byte plan i → w.needs ≡ x.needs → e ≡ s.echelons → n ≡ s.resources → o ≡ row_options w → q ≡ row_resources w n → first_failed i e w o q ≡ objection s b plan i
+  objection_same x w e n o q same-x starts bytes needs same-e same-n options resources =
       let started = starts ∙ ap (λ (y : Component). start_under plan y.parent) same-x in
-      let way = same_route w (start s plan i) (byte plan i) started bytes in
+      let needed = needs ∙ ap (λ (y : Component). y.needs) same-x in
+      let way = same_route w (start s plan i) (byte plan i) (component s i).needs started bytes needed in
       ap (λ u. first_failed i e w u q) options ∙ ap (first_failed i e w (row_options w)) resources
-      ∙ ap (λ f. failed f w x n) same-e ∙ ap (λ v. failed s.echelons v x n) way
-      ∙ ap (λ y. failed s.echelons (route_of s plan i) y n) same-x
-      ∙ ap (failed s.echelons (route_of s plan i) (component s i)) same-n ∙ rows_same
+      ∙ ap (λ f. failed f w n) same-e ∙ ap (λ v. failed s.echelons v n) way
+      ∙ ap (failed s.echelons (route_of s plan i)) same-n ∙ rows_same

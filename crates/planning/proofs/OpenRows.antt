@@ -1,10 +1,10 @@
 -- What the rows of the survey say of a component is what the book says.
 use Rattle.std.proofs.Common.{◌≡◌, ℕ, suc, ◌*◌, ◌<◌, ◌≤◌, Bool, true, false, cond, not, ◌&&◌, ◌||◌, ltb, leb, List, [], ◌∷◌, get_or, is_some, None, Option, sym, refl, ap, ◌∙◌, arith}
+use Rattle.std.proofs.Math.Bool.{and-true}
 use Rattle.std.proofs.lemmas.Bool.{le-leb, lt-leb, le-ltb, ltb-false, ne_eqb, and_from, and_right, or_from, cond-true, cond-false}
 use Rattle.costs.specs.declared.posting.Posting.{Posting}
 use Rattle.model.specs.declared.answer.Answer.{Answer}
 use Rattle.model.specs.declared.answer.Answer.TheVariants.{Charged, Barred, Faulty}
-use Rattle.model.specs.declared.component.Needs.{Needs}
 use Rattle.model.specs.declared.question.Question.{Question}
 use Rattle.model.specs.declared.question.Question.TheVariants.{OfOption, OfResource}
 use Rattle.model.specs.declared.question.RepairOption.{RepairOption}
@@ -23,7 +23,7 @@ use Rattle.planning.specs.declared.table.Choices.{Choices}
 use Rattle.planning.specs.declared.table.Survey.{Survey}
 use Rattle.planning.specs.Surveys.{no_choices, no_resource, choices_of, option_row, pair_posting, resource_row, Keeps}
 use Rattle.planning.specs.OpenRows.{posted_where, uses_on, needs_on, needs_resource_on, choices_open, options_open, resource_open, resources_open}
-use Rattle.planning.proofs.Every.{and_same, and_true, every_upto, below_same, below_more}
+use Rattle.planning.proofs.Every.{and_same, every_upto, below_same, below_more}
 
 -- what has a posting is open
 posted_open : (n : ℕ) (a : Answer) → is_some (posting_of n a) ≡ is_charge a
@@ -48,14 +48,14 @@ module _ (w : Route) (last e : ℕ) (few : w.byte ≤ 2 * last) where
   unused Repair past = and_right (leb 1 w.start) _ (ne_eqb w.byte (2 * e) (λ h. omega arith))
   unused Move past = no_move (omega arith)
 
-  unneeded : (n : Needs) (r : ℕ) → last < e → needs_resource_on w n r e ≡ false
-  unneeded n r past =
-      let by : (o : RepairOption) → needs_on w n r e o ≡ false = λ o. ap (λ u. u && needs_resource n o r) (unused o past) in
+  unneeded : (r : ℕ) → last < e → needs_resource_on w r e ≡ false
+  unneeded r past =
+      let by : (o : RepairOption) → needs_on w r e o ≡ false = λ o. ap (λ u. u && needs_resource w.needs o r) (unused o past) in
       or_from _ _ (by Discard) (or_from _ _ (by Repair) (by Move))
 
 -- the way of component i in a plan
 abbrev pub route_of : Model → List ℕ → ℕ → Route
-route_of s plan i = record { start = start s plan i; byte = byte plan i }
+route_of s plan i = record { start = start s plan i; byte = byte plan i; needs = (component s i).needs }
 
 -- component i of a study whose echelons are few, in a plan that gives it a byte of at most twice the echelons
 module _ (s : Model) (b : Book) (plan : List ℕ) (i : ℕ) (echelons : s.echelons ≤ 4) (few : byte plan i ≤ 2 * s.echelons) where
@@ -80,7 +80,7 @@ module _ (s : Model) (b : Book) (plan : List ℕ) (i : ℕ) (echelons : s.echelo
   option_same e o = posted_same s b (uses_on w e o) (OfOption i e o)
 
   choices_asked : (e : ℕ) (moves : Bool) → (moves ≡ false → uses_on w e Move ≡ false) → choices_open w e (choices e moves) ≡ every option_open (OfOption i e Discard ∷ OfOption i e Repair ∷ cond moves (OfOption i e Move ∷ []) [])
-  choices_asked e true none = and_same (option_same e Discard) (and_same (option_same e Repair) (option_same e Move ∙ sym (and_true _)))
+  choices_asked e true none = and_same (option_same e Discard) (and_same (option_same e Repair) (option_same e Move ∙ sym (and-true _)))
   choices_asked e false none = and_same (option_same e Discard) (and_same (option_same e Repair) (posted_unused (uses_on w e Move) None (none refl)))
 
   choices_same : (k : ℕ) → k < s.echelons → choices_open w (suc k) (choices_of s b i (suc k)) ≡ every option_open (echelon_questions s.echelons i (suc k))
@@ -100,24 +100,21 @@ module _ (s : Model) (b : Book) (plan : List ℕ) (i : ℕ) (echelons : s.echelo
       below_more (λ k. choices_open w (suc k) (choices_of s b i (suc k))) (λ k. every option_open (echelon_questions s.echelons i (suc k))) s.echelons 4 echelons choices_same choices_past
       ∙ sym (every_upto option_open (λ k. echelon_questions s.echelons i (suc k)) s.echelons)
 
-  abbrev needs : Needs
-  needs = (component s i).needs
-
-  pair_same : (r k : ℕ) → k < s.echelons → posted_where (needs_resource_on w needs r (suc k)) (pair_posting s b r (suc k)) ≡ every needed_open (OfResource r (suc k) ∷ [])
+  pair_same : (r k : ℕ) → k < s.echelons → posted_where (needs_resource_on w r (suc k)) (pair_posting s b r (suc k)) ≡ every needed_open (OfResource r (suc k) ∷ [])
   pair_same r k l =
-      ap (posted_where (needs_resource_on w needs r (suc k))) (cond-true (leb (suc k) s.echelons) (posting s b (OfResource r (suc k))) None (le-leb (suc k) s.echelons (omega arith)))
-      ∙ posted_same s b (needs_resource_on w needs r (suc k)) (OfResource r (suc k)) ∙ sym (and_true _)
+      ap (posted_where (needs_resource_on w r (suc k))) (cond-true (leb (suc k) s.echelons) (posting s b (OfResource r (suc k))) None (le-leb (suc k) s.echelons (omega arith)))
+      ∙ posted_same s b (needs_resource_on w r (suc k)) (OfResource r (suc k)) ∙ sym (and-true _)
 
-  pair_past : (r k : ℕ) → s.echelons ≤ k → posted_where (needs_resource_on w needs r (suc k)) (pair_posting s b r (suc k)) ≡ true
-  pair_past r k l = posted_unused (needs_resource_on w needs r (suc k)) (pair_posting s b r (suc k)) (unneeded w s.echelons (suc k) few needs r (omega arith))
+  pair_past : (r k : ℕ) → s.echelons ≤ k → posted_where (needs_resource_on w r (suc k)) (pair_posting s b r (suc k)) ≡ true
+  pair_past r k l = posted_unused (needs_resource_on w r (suc k)) (pair_posting s b r (suc k)) (unneeded w s.echelons (suc k) few r (omega arith))
 
-  resource_same : (r : ℕ) → resource_open w needs r (resource_row s b r) ≡ every needed_open (resource_questions s.echelons r)
+  resource_same : (r : ℕ) → resource_open w r (resource_row s b r) ≡ every needed_open (resource_questions s.echelons r)
   resource_same r =
-      below_more (λ k. posted_where (needs_resource_on w needs r (suc k)) (pair_posting s b r (suc k))) (λ k. every needed_open (OfResource r (suc k) ∷ [])) s.echelons 4 echelons (pair_same r) (pair_past r)
+      below_more (λ k. posted_where (needs_resource_on w r (suc k)) (pair_posting s b r (suc k))) (λ k. every needed_open (OfResource r (suc k) ∷ [])) s.echelons 4 echelons (pair_same r) (pair_past r)
       ∙ sym (every_upto needed_open (λ k. OfResource r (suc k) ∷ []) s.echelons)
 
   -- every resource that the component needs is open, by the rows and by the book
-  pub resources_same : (t : Survey) → Keeps s b t → resources_open w needs t.resources s.resources ≡ every needed_open (pair_questions s)
+  pub resources_same : (t : Survey) → Keeps s b t → resources_open w t.resources s.resources ≡ every needed_open (pair_questions s)
   resources_same t kept =
-      below_same (λ r. resource_open w needs r (get_or t.resources r no_resource)) (λ r. every needed_open (resource_questions s.echelons r)) s.resources (λ r l. ap (resource_open w needs r) (kept.resources r l) ∙ resource_same r)
+      below_same (λ r. resource_open w r (get_or t.resources r no_resource)) (λ r. every needed_open (resource_questions s.echelons r)) s.resources (λ r l. ap (resource_open w r) (kept.resources r l) ∙ resource_same r)
       ∙ sym (every_upto needed_open (resource_questions s.echelons) s.resources)

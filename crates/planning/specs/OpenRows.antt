@@ -1,7 +1,6 @@
 -- Whether all that a component uses is open, as the rows of the survey say.
 use Rattle.std.specs.Prelude.{ℕ, zero, suc, Bool, true, not, ◌&&◌, ◌||◌, List, is_some, None, Option, slice_index_or}
 use Rattle.costs.specs.declared.posting.Posting.{Posting}
-use Rattle.model.specs.declared.component.Needs.{Needs}
 use Rattle.model.specs.declared.question.RepairOption.{RepairOption}
 use Rattle.model.specs.declared.question.RepairOption.TheVariants.{Discard, Repair, Move}
 use Rattle.model.specs.Components.{needs_resource}
@@ -34,18 +33,18 @@ abbrev pub options_open : Route → List Choices → Bool
 options_open w row = every_below (λ k. choices_open w (suc k) (slice_index_or row k no_choices)) 4
 
 -- the component needs resource r at echelon e by that option
-abbrev pub needs_on : Route → Needs → ℕ → ℕ → RepairOption → Bool
-needs_on w n r e o = uses_on w e o && needs_resource n o r
+abbrev pub needs_on : Route → ℕ → ℕ → RepairOption → Bool
+needs_on w r e o = uses_on w e o && needs_resource w.needs o r
 
 -- the component needs resource r at echelon e
-abbrev pub needs_resource_on : Route → Needs → ℕ → ℕ → Bool
-needs_resource_on w n r e = needs_on w n r e Discard || (needs_on w n r e Repair || needs_on w n r e Move)
+abbrev pub needs_resource_on : Route → ℕ → ℕ → Bool
+needs_resource_on w r e = needs_on w r e Discard || (needs_on w r e Repair || needs_on w r e Move)
 
 -- resource r is open at each of the echelons 1 to 4 where the component needs it
-abbrev pub resource_open : Route → Needs → ℕ → List (Option Posting) → Bool
-resource_open w n r row =
-    every_below (λ k. posted_where (needs_resource_on w n r (suc k)) (slice_index_or row k None)) 4
+abbrev pub resource_open : Route → ℕ → List (Option Posting) → Bool
+resource_open w r row =
+    every_below (λ k. posted_where (needs_resource_on w r (suc k)) (slice_index_or row k None)) 4
 
 -- each of the first q resources is
-abbrev pub resources_open : Route → Needs → List (List (Option Posting)) → ℕ → Bool
-resources_open w n rows q = every_below (λ r. resource_open w n r (slice_index_or rows r no_resource)) q
+abbrev pub resources_open : Route → List (List (Option Posting)) → ℕ → Bool
+resources_open w rows q = every_below (λ r. resource_open w r (slice_index_or rows r no_resource)) q

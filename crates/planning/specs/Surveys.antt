@@ -3,6 +3,7 @@ use Rattle.std.specs.Prelude.{◌≡◌, ℕ, ◌<◌, cond, List, [], ◌∷◌
 use Rattle.costs.specs.declared.posting.Posting.{Posting}
 use Rattle.model.specs.declared.answer.Fault.{Fault}
 use Rattle.model.specs.declared.question.Question.TheVariants.{OfOption, OfResource}
+use Rattle.model.specs.declared.question.RepairOption.{RepairOption}
 use Rattle.model.specs.declared.question.RepairOption.TheVariants.{Discard, Repair, Move}
 use Rattle.model.specs.Books.{Book}
 use Rattle.model.specs.Studies.{Model}
@@ -14,6 +15,12 @@ use Rattle.planning.specs.declared.table.Survey.{Survey}
 -- stand where nothing is asked
 abbrev pub no_choices : Choices
 no_choices = record { discard = None; repair = None; moving = None }
+
+-- what is kept of one option
+abbrev pub choice : Choices → RepairOption → Option Posting
+choice c Discard = c.discard
+choice c Repair = c.repair
+choice c Move = c.moving
 
 abbrev pub no_options : List Choices
 no_options = []

@@ -8,11 +8,9 @@ ghost use Rattle.planning.specs.OpenRows.{posted_where, choices_open, options_op
 ghost use Rattle.planning.specs.Surveys.{Keeps};
 
 use crate::draft::Draft;
-use crate::route::Route;
+use crate::route::{OPTIONS, Route};
 use crate::table::{ByEchelon, Choices, Survey};
 use costs::posting::Posting;
-use model::component::Needs;
-use model::question::RepairOption;
 use model::refusal::Refusal;
 
 // Whether what is used has a posting, and so is open.
@@ -26,9 +24,7 @@ fn posted_where(used: bool, posting: Option<Posting>) -> bool
 fn choices_open(route: Route, echelon: u8, choices: Choices) -> bool
     ensures { result ≡ choices_open route echelon choices }
 {
-    posted_where(route.uses(echelon, RepairOption::Discard), choices.discard)
-        && posted_where(route.uses(echelon, RepairOption::Repair), choices.repair)
-        && posted_where(route.uses(echelon, RepairOption::Move), choices.moving)
+    OPTIONS.iter().all(|option| posted_where(route.uses(echelon, *option), choices.of(*option)))
 }
 
 // Whether every option that the component uses is open.
@@ -39,23 +35,20 @@ fn options_open(route: Route, row: &ByEchelon<Choices>) -> bool
 }
 
 // Whether that resource is open wherever the component needs it.
-fn resource_open(route: Route, needs: Needs, resource: u8, row: &ByEchelon<Option<Posting>>) -> bool
-    ensures { result ≡ resource_open route needs resource row.now }
+fn resource_open(route: Route, resource: u8, row: &ByEchelon<Option<Posting>>) -> bool
+    ensures { result ≡ resource_open route resource row.now }
 {
-    (1..5).zip(row).all(|(echelon, posting)| posted_where(
-        route.needs(needs, echelon, resource),
-        *posting,
-    ))
+    (1..5).zip(row).all(|(echelon, posting)| posted_where(route.needs(echelon, resource), *posting))
 }
 
 // Whether every resource that the component needs is open.
-fn resources_open(route: Route, needs: Needs, survey: &Survey, resources: u8) -> bool
+fn resources_open(route: Route, survey: &Survey, resources: u8) -> bool
     requires { resources ≤ 8 }
-    ensures { result ≡ resources_open route needs survey.now.resources resources }
+    ensures { result ≡ resources_open route survey.now.resources resources }
 {
-    (0..resources).zip(&survey.resources).all(|(resource, row)| resource_open(
-        route, needs, resource, row,
-    ))
+    (0..resources)
+        .zip(&survey.resources)
+        .all(|(resource, row)| resource_open(route, resource, row))
 }
 
 // The first question that a component fails, by its way in the plan and whether its options and resources are open.
@@ -95,12 +88,7 @@ impl Draft<'_> {
         for (number, component) in self.study.components().iter().enumerate() {
             let route = Route::of(component, self.plan, number);
             let options = options_open(route, &self.survey.options[number]);
-            let resources = resources_open(
-                route,
-                component.needs,
-                self.survey,
-                self.study.resources(),
-            );
+            let resources = resources_open(route, self.survey, self.study.resources());
             first_failed(
                 number as u8,
                 self.study.echelons(),

@@ -1,9 +1,8 @@
-// The way of one component in a plan: the echelon where it starts, and its byte.
-ghost use Rattle.std.specs.Prelude.{◌≡◌, ◌&&◌, ◌||◌};
-ghost use Rattle.model.specs.Components.{needs_resource};
-ghost use Rattle.model.specs.declared.question.RepairOption.TheVariants.{Discard, Repair, Move};
+// The way of one component in a plan: the echelon where it starts, its byte, and the resources that it needs on the way.
+ghost use Rattle.std.specs.Prelude.{◌≡◌};
 ghost use Rattle.plans.specs.Starts.{byte, final, start_under};
 ghost use Rattle.plans.specs.Uses.{uses_at};
+ghost use Rattle.planning.specs.OpenRows.{needs_on, needs_resource_on};
 
 use crate::start::{byte_of, start_under};
 use model::component::{Component, Needs};
@@ -15,10 +14,11 @@ use model::question::RepairOption;
 pub(crate) struct Route {
     pub start: u8,
     pub byte: u8,
+    pub needs: Needs,
 }
 
 // All that can be done with a component.
-const OPTIONS: [RepairOption; 3] = [
+pub(crate) const OPTIONS: [RepairOption; 3] = [
     RepairOption::Discard,
     RepairOption::Repair,
     RepairOption::Move,
@@ -29,10 +29,12 @@ impl Route {
     pub(crate) fn of(component: &Component, plan: &[u8], number: usize) -> Route
         ensures start { result.start ≡ start_under plan.now component.now.parent }
         ensures byte { result.byte ≡ byte plan.now number }
+        ensures needs { result.needs ≡ component.now.needs }
     {
         Route {
             start: start_under(plan, component.parent),
             byte: byte_of(plan, number),
+            needs: component.needs,
         }
     }
 
@@ -57,18 +59,18 @@ impl Route {
     }
 
     // Whether the component uses that option at that echelon, and the option needs that resource.
-    fn needs_by(self, needs: Needs, echelon: u8, resource: u8, option: RepairOption) -> bool
-        ensures { result ≡ uses_at self.start self.byte echelon option && needs_resource needs option resource }
+    fn needs_by(self, echelon: u8, resource: u8, option: RepairOption) -> bool
+        ensures { result ≡ needs_on self resource echelon option }
     {
-        self.uses(echelon, option) && needs.includes(option, resource)
+        self.uses(echelon, option) && self.needs.includes(option, resource)
     }
 
-    // Whether the component, with those needs, needs that resource at that echelon.
-    pub(crate) fn needs(self, needs: Needs, echelon: u8, resource: u8) -> bool
-        ensures { result ≡ (uses_at self.start self.byte echelon Discard && needs_resource needs Discard resource) || ((uses_at self.start self.byte echelon Repair && needs_resource needs Repair resource) || (uses_at self.start self.byte echelon Move && needs_resource needs Move resource)) }
+    // Whether the component needs that resource at that echelon.
+    pub(crate) fn needs(self, echelon: u8, resource: u8) -> bool
+        ensures { result ≡ needs_resource_on self resource echelon }
     {
         OPTIONS
             .iter()
-            .any(|option| self.needs_by(needs, echelon, resource, *option))
+            .any(|option| self.needs_by(echelon, resource, *option))
     }
 }

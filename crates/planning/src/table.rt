@@ -1,16 +1,33 @@
 // What the survey keeps of a book's answers: the postings of all that is open.
+ghost use Rattle.std.specs.Prelude.{◌≡◌};
+ghost use Rattle.planning.specs.Surveys.{choice};
+
 use costs::posting::Posting;
+use model::question::RepairOption;
 
 // What is kept for each of the echelons 1 to 4.
 pub type ByEchelon<T> = [T; 4];
 
 // The postings of one component at one echelon, none where the option is not open.
-// Stays: `Needs` has these three fields too, but as masks with methods of their own; one type for both would share no function (d).
+// Stays: one type for these and `Needs` would share `of` alone, since `Needs` is compared and printed, and a cost is not (d).
 #[derive(Clone, Copy)]
 pub struct Choices {
     pub discard: Option<Posting>,
     pub repair: Option<Posting>,
     pub moving: Option<Posting>,
+}
+
+impl Choices {
+    // What is kept of one option.
+    pub(crate) fn of(self, option: RepairOption) -> Option<Posting>
+        ensures { result ≡ choice self option }
+    {
+        match option {
+            RepairOption::Discard => self.discard,
+            RepairOption::Repair => self.repair,
+            RepairOption::Move => self.moving,
+        }
+    }
 }
 
 // A row for each component, and one for each resource: its posting, none where it is not open.

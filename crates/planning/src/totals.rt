@@ -44,9 +44,25 @@ impl Draft<'_> {
     {
         let mut sum = options;
         for (resource, row) in (0..self.study.resources()).zip(&self.survey.resources) {
-            sum = plus_resource(kind, sum, self.study, self.plan, resource, row);
+            sum = self.plus_resource(kind, sum, resource, row);
         }
         sum
+    }
+
+    // Adds a resource at those of the echelons 1 to 4 where it is needed.
+    fn plus_resource<K: CostKind>(
+        &self,
+        kind: &K,
+        sum: Option<K::Cost>,
+        resource: u8,
+        row: &ByEchelon<Option<Posting>>,
+    ) -> Option<K::Cost>
+        ensures { Adds K.adding sum (of_resource (λ e. uses (model self.now.study.now) self.now.plan.now (OfResource resource e)) row.now) result }
+    {
+        let needed = [1, 2, 3, 4].map(|echelon| is_needed(
+            self.study, self.plan, resource, echelon,
+        ));
+        plus_row(kind, sum, needed, row)
     }
 }
 
@@ -85,21 +101,6 @@ fn plus_echelon<K: CostKind>(
     plus_used(kind, sum, moves, choices.moving)
 }
 
-// Adds a resource at those of the echelons 1 to 4 where it is needed.
-fn plus_resource<K: CostKind>(
-    kind: &K,
-    sum: Option<K::Cost>,
-    study: &Study,
-    plan: &[u8],
-    resource: u8,
-    row: &ByEchelon<Option<Posting>>,
-) -> Option<K::Cost>
-    ensures { Adds K.adding sum (of_resource (λ e. uses (model study.now) plan.now (OfResource resource e)) row.now) result }
-{
-    let needed = [1, 2, 3, 4].map(|echelon| is_needed(study, plan, resource, echelon));
-    plus_row(kind, sum, needed, row)
-}
-
 // Adds the postings of a resource at those of the echelons 1 to 4 where it is used.
 pub fn plus_row<K: CostKind>(
     kind: &K,
@@ -120,13 +121,10 @@ pub fn plus_row<K: CostKind>(
 pub fn is_needed(study: &Study, plan: &[u8], resource: u8, echelon: u8) -> bool
     ensures { result ≡ uses (model study.now) plan.now (OfResource resource echelon) }
 {
-    for (number, component) in study.components().iter().enumerate() {
+    study.components().iter().enumerate().any(|(number, component)| {
         let route = Route::of(component, plan, number);
-        if route.needs(component.needs, echelon, resource) {
-            return true;
-        }
-    }
-    false
+        route.needs(echelon, resource)
+    })
 }
 
 // Adds the posting of what is used, where it is open.

@@ -1,20 +1,15 @@
-use Rattle.std.proofs.Common.{◌<◌, length, sym, ap, ◌∙◌, arith}
+use Rattle.std.proofs.Common.{◌∙◌, rules, tests}
+use Rattle.std.proofs.lemmas.Iterator.{YieldsList-from_slice}
+use Rattle.std.proofs.lemmas.Iterator.Consumers.{YieldsList-from_enumerate}
+use Rattle.std.proofs.lemmas.Iterator.Search.{any_from_yields_List}
 use Rattle.model.specs.Studies.{model}
-use Rattle.plans.specs.Questions.{count}
-use Rattle.plans.specs.Uses.{needs_at}
-use Rattle.planning.proofs.Needing.{needs_read, none_more, some_there}
+use Rattle.planning.proofs.Needing.{needs_read, any_needs}
 use Rattle.planning.proofs.totals.is_needed.Goals as goal
 
-pub loop-number-preserved : goal.loop-number-preserved
-loop-number-preserved c =
+pub returns : goal.returns
+returns c =
     let s = model c.args.study.now in
-    let plan = c.args.plan.now in
-    let needs = needs_read s plan _ _ _ c.components-component-items.ensures c.loop-number-test.true _ _ _ _ _ c.of-route.ensures.start c.of-route.ensures.byte c.needs.ensures in
-    none_more (needs_at s plan c.args.resource c.args.echelon) c.loop-number.number c.loop-number.invariant (sym needs ∙ c.if-needs.false)
-
-pub returns-then-needs : goal.returns-then-needs
-returns-then-needs c =
-    let s = model c.args.study.now in
-    let needs = needs_read s c.args.plan.now _ _ _ c.components-component-items.ensures c.loop-number-test.true _ _ _ _ _ c.of-route.ensures.start c.of-route.ensures.byte c.needs.ensures in
-    let h : c.loop-number.number < count s = omega (arith, ap length c.components-component-items.ensures) in
-    sym (some_there _ (count s) _ h (sym needs ∙ c.if-needs.true))
+    let xs = c.components.result.now in
+    any_from_yields_List (λ p. needs_read s c.args.plan.now c.args.resource c.args.echelon p.0 p.1) c.any.new.self _ c.any.result c.any.ensures.ran
+    (YieldsList-from_enumerate (YieldsList-from_slice xs (search rules)) (search rules)) (λ x b q k. search (rules, tests))
+    ∙ any_needs s c.args.plan.now c.args.resource c.args.echelon xs c.components.ensures

@@ -10,7 +10,7 @@ use Rattle.planning.proofs.route.Route.needs.Goals as goal
 
 pub returns : goal.returns
 returns c =
-    let test = λ (o : RepairOption). uses_at c.args.self.start c.args.self.byte c.args.echelon o && needs_resource c.args.needs o c.args.resource in
+    let test = λ (o : RepairOption). uses_at c.args.self.start c.args.self.byte c.args.echelon o && needs_resource c.args.self.needs o c.args.resource in
     any_from_yields_List test c.any.new.self _ c.any.result c.any.ensures.ran
     (YieldsList-from_slice (Discard ∷ Repair ∷ Move ∷ []) (search rules)) (λ x b q k. search (rules, tests))
     ∙ any_of_three test Discard Repair Move
