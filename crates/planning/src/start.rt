@@ -10,7 +10,7 @@ pub(crate) fn byte_of(plan: &[u8], number: usize) -> u8
 }
 
 // The echelon at which a byte repairs, 0 where it does not.
-// Stays: 0 is what the definition of `start_under` says there, and what the byte 0 of a plan says too (a).
+// Stays: 0 is what the definition of `repaired_at` says there, and what the byte 0 of a plan says too (a).
 fn repaired_at(byte: u8) -> u8
     ensures { result ≡ repaired_at byte }
 {
@@ -18,6 +18,7 @@ fn repaired_at(byte: u8) -> u8
 }
 
 // The echelon where a component with that parent starts, 0 where the plan does not reach it.
+// Stays: 0, not None, is what the definition of `start_under` says there, on which the contracts of plans stand (a).
 pub fn start_under(plan: &[u8], parent: Option<u8>) -> u8
     ensures { result ≡ start_under plan.now parent }
 {

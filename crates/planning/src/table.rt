@@ -9,7 +9,7 @@ use model::question::RepairOption;
 pub type ByEchelon<T> = [T; 4];
 
 // The postings of one component at one echelon, none where the option is not open.
-// Stays: one type for these and `Needs` would share `of` alone, since `Needs` is compared and printed, and a cost is not (d).
+// Stays: two types, though `Needs` has these fields too: they would share `of` alone, and contracts on studies name `Needs` (d).
 #[derive(Clone, Copy)]
 pub struct Choices {
     pub discard: Option<Posting>,

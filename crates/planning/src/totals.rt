@@ -67,7 +67,7 @@ impl Draft<'_> {
 }
 
 // Adds what a component uses at the echelons 1 to 4.
-// Stays: kind and sum go side by side here and below; a struct of both would hide the sum that is answered, which `Adds` names.
+// Stays: kind and sum go side by side here and below; tried as a struct with `add(&mut self, ..)`; its loops were not proved (c).
 fn plus_component<K: CostKind>(
     kind: &K,
     sum: Option<K::Cost>,
