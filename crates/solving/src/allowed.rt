@@ -19,7 +19,8 @@ fn bit(mark: Mark, resource: usize) -> u8
 
 // The mask of the resources that are shut at the echelon.
 fn shut_mask(marks: &Marks, echelon: usize, resources: u8) -> u8
-    requires { (echelon < 4) × (resources ≤ 8) }
+    requires echelon { echelon < 4 }
+    requires resources { resources ≤ 8 }
     ensures { result ≡ shut_mask marks.now echelon resources }
 {
     let mut mask = 0;

@@ -27,8 +27,7 @@ fn held_at(line: &[Mark; 4]) -> [bool; 4]
 }
 
 // Adds the held pairs, by resource.
-// Stays: planning goes over the needed pairs so; one function for both would be public and have to require that the test which it
-// is handed may be called (a).
+// Stays: planning adds pairs so, each asked from the plan (`is_needed`) for its own resources; here a mark says it (d).
 fn plus_held<K: CostKind>(
     problem: &Problem<K>,
     cost: Option<K::Cost>,
@@ -38,13 +37,13 @@ fn plus_held<K: CostKind>(
 {
     let mut sum = cost;
     let resources = usize::from(problem.study.resources());
-    for (resource, line) in marks[..resources].iter().enumerate() {
-        let row = &problem.survey.resources[resource];
+    for (line, row) in marks[..resources].iter().zip(&problem.survey.resources) {
         sum = plus_row(problem.kind, sum, held_at(line), row);
     }
     sum
 }
 
+// What the walk found, with the postings of the held pairs, and without them where it found no plan.
 pub(crate) fn bound<K: CostKind>(
     problem: &Problem<K>,
     marks: &Marks,
@@ -58,7 +57,7 @@ pub(crate) fn bound<K: CostKind>(
         None => found,
         Some(_) => Best {
             cost: plus_held(problem, found.cost, marks),
-            plan: found.plan,
+            ..found
         },
     }
 }

@@ -11,6 +11,7 @@ use crate::sum::{Sum, both, posted};
 use costs::kind::CostKind;
 use planning::table::Choices;
 
+// The byte, and the sum of what it and the components under it post.
 #[derive(Clone, Copy)]
 pub(crate) struct Choice<C: Copy> {
     pub byte: u8,
@@ -63,7 +64,8 @@ pub(crate) fn way_on<K: CostKind>(
     under: Sum<K::Cost>,
     onward: Choice<K::Cost>,
 ) -> Choice<K::Cost>
-    requires { (1 ≤ echelon) × (echelon ≤ 4) }
+    requires from_one { 1 ≤ echelon }
+    requires to_four { echelon ≤ 4 }
     ensures { Leads K.adding K.lower choices echelon under onward result }
 {
     let discarded = Choice {

@@ -22,6 +22,7 @@ fn first_mark(posting: Option<Posting>) -> Mark
     }
 }
 
+// The marks of a row of postings.
 fn first_line(row: ByEchelon<Option<Posting>>) -> [Mark; 4]
     ensures { result ≡ first_line row }
 {

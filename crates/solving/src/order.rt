@@ -33,7 +33,7 @@ pub(crate) fn is_ahead<K: CostKind>(
         (Some(a), Some(b)) => {
             kind.is_lower(a, b)
                 || (!kind.is_lower(b, a)
-                    && reads_before(&first.plan[0..count], &second.plan[0..count]))
+                    && reads_before(&first.plan[..count], &second.plan[..count]))
         }
     }
 }

@@ -28,7 +28,8 @@ pub(crate) fn free_pair(study: &Study, plan: &[u8], marks: &Marks) -> Option<(us
 
 // The marks with one pair marked anew.
 pub(crate) fn marked(marks: Marks, resource: usize, place: usize, mark: Mark) -> Marks
-    requires { (resource < 8) × (place < 4) }
+    requires resource { resource < 8 }
+    requires place { place < 4 }
     ensures { result ≡ marking marks resource place mark }
 {
     // Stays: a named form, a row by value in a local, copied for each set tried.

@@ -19,7 +19,8 @@ fn noted_at(bytes: [u8; 4], start: u8) -> u8
 
 // Writes the byte of each component.
 pub(crate) fn read_off(study: &Study, notes: &[[u8; 4]], plan: &mut [u8])
-    requires { (count (model study.now) ≤ length notes.now) × (count (model study.now) ≤ length plan.old) }
+    requires notes { count (model study.now) ≤ length notes.now }
+    requires plan { count (model study.now) ≤ length plan.old }
     ensures { ReadsOff (model study.now) notes.now (count (model study.now)) plan.new }
 {
     // Stays: the plan is read at the parent and written at the number within one turn, so the number is needed anyway.

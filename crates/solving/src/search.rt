@@ -29,7 +29,7 @@ pub(crate) fn search<K: CostKind>(
     if !is_ahead(problem.kind, &found, &best, count) {
         return best;
     }
-    match free_pair(problem.study, &found.plan[0..count], &marks) {
+    match free_pair(problem.study, &found.plan[..count], &marks) {
         None => found,
         Some((resource, place)) => {
             let held = marked(marks, resource, place, Mark::Held);

@@ -8,8 +8,8 @@ ghost use Rattle.solving.specs.Sums.{held, Posts, HoldsPosting, Joins};
 use costs::kind::CostKind;
 use costs::posting::Posting;
 
-// Stays: three cases, of which two are without a cost, so neither an `Option` nor a `Result`.
 // Nothing is posted yet, or the postings have a cost, or something is used that is not open.
+// Stays: the other form is `Result<Option<C>, Shut>`, which names none of the three cases (d).
 #[derive(Clone, Copy)]
 pub(crate) enum Sum<C: Copy> {
     Nothing,
@@ -46,7 +46,6 @@ pub(crate) fn cost_of<C: Copy>(sum: Sum<C>) -> Option<C>
 {
     match sum {
         Sum::Cost(c) => Some(c),
-        Sum::Nothing => None,
-        Sum::Closed => None,
+        Sum::Nothing | Sum::Closed => None,
     }
 }

@@ -29,7 +29,8 @@ pub(crate) fn take_component<K: CostKind>(
     working: &mut [K::Cost],
 ) -> Taken<K::Cost>
     requires entered { number < count (model problem.now.study.now) }
-    requires tables_long_enough { (cells (model problem.now.study.now) ≤ length tags.old) × (cells (model problem.now.study.now) ≤ length working.old) }
+    requires tags { cells (model problem.now.study.now) ≤ length tags.old }
+    requires working { cells (model problem.now.study.now) ≤ length working.old }
     ensures { TakesOne K.adding K.lower (model problem.now.study.now) problem.now.survey.now shut.now number (view tags.old working.old) (view tags.new working.new) result }
 {
     let component = problem.study.components()[number];

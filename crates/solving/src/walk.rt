@@ -25,8 +25,9 @@ fn take_all<K: CostKind>(
     working: &mut [K::Cost],
     notes: &mut [[u8; 4]],
 ) -> Sum<K::Cost>
-    requires tables_long_enough { (cells (model problem.now.study.now) ≤ length tags.old) × (cells (model problem.now.study.now) ≤ length working.old) }
-    requires notes_long_enough { count (model problem.now.study.now) ≤ length notes.old }
+    requires tags { cells (model problem.now.study.now) ≤ length tags.old }
+    requires working { cells (model problem.now.study.now) ≤ length working.old }
+    requires notes { count (model problem.now.study.now) ≤ length notes.old }
     ensures { TakesAll K.adding K.lower (model problem.now.study.now) problem.now.survey.now shut.now (view tags.old working.old) notes.new result }
 {
     let mut total = Sum::Nothing;

@@ -9,7 +9,8 @@ use costs::kind::CostKind;
 
 // Reads a cell.
 pub(crate) fn sum_at<C: Copy>(tags: &[Tag], working: &[C], cell: usize) -> Sum<C>
-    requires { (cell < length tags.now) × (cell < length working.now) }
+    requires tag { cell < length tags.now }
+    requires cost { cell < length working.now }
     ensures { result ≡ slice_index_or (view tags.now working.now) cell Closed }
 {
     match tags[cell] {
@@ -21,7 +22,8 @@ pub(crate) fn sum_at<C: Copy>(tags: &[Tag], working: &[C], cell: usize) -> Sum<C
 
 // Writes a cell.
 fn put_sum<C: Copy>(tags: &mut [Tag], working: &mut [C], cell: usize, sum: Sum<C>)
-    requires { (cell < length tags.old) × (cell < length working.old) }
+    requires tag { cell < length tags.old }
+    requires cost { cell < length working.old }
     ensures { view tags.new working.new ≡ slice_set (view tags.old working.old) cell sum }
 {
     match sum {
@@ -44,7 +46,9 @@ pub(crate) fn add_above<K: CostKind>(
     tags: &mut [Tag],
     working: &mut [K::Cost],
 )
-    requires { (Room parent echelons echelon (length tags.old)) × ((Room parent echelons echelon (length working.old)) × ((echelons ≤ 4) × (echelon < 4))) }
+    requires tag { Room parent echelons echelon (length tags.old) }
+    requires cost { Room parent echelons echelon (length working.old) }
+    requires few { (echelons ≤ 4) × (echelon < 4) }
     ensures { AddsAbove K.adding parent echelons echelon sum (view tags.old working.old) (view tags.new working.new) }
 {
     if let Some(parent) = parent {

@@ -1,5 +1,4 @@
-use Rattle.std.proofs.Common.{length, take, refl, ap, arith}
-use native.Mathlib.Nat.{sub-zero}
+use Rattle.std.proofs.Common.{length, refl, ap, arith}
 use Rattle.model.specs.Studies.{model}
 use Rattle.solving.proofs.Frees.{marks_fall}
 use Rattle.solving.proofs.Searching.{nothing_better, here, both_branches}
@@ -21,7 +20,7 @@ search-requires g t c κs within =
 
 pub returns-in-None : goal.returns-in-None
 returns-in-None g t c =
-    here g.met.K.CostKind.laws (model c.args.problem.now.study.now) c.args.problem.now.survey.now c.args.marks c.args.problem.now.some_component c.args.best c.bound-found.result c.bound-found.ensures _ (ap length c.components-count.ensures) _ c.is_ahead.ensures _ (ap (λ n. take n c.bound-found.result.plan) (sub-zero _)) c.in-None.ensures c.if-not-is_ahead.false
+    here g.met.K.CostKind.laws (model c.args.problem.now.study.now) c.args.problem.now.survey.now c.args.marks c.args.problem.now.some_component c.args.best c.bound-found.result c.bound-found.ensures _ (ap length c.components-count.ensures) _ c.is_ahead.ensures _ refl c.in-None.ensures c.if-not-is_ahead.false
 
 pub returns-in-Some : goal.returns-in-Some
 returns-in-Some g t c =

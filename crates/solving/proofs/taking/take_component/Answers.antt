@@ -22,7 +22,7 @@ add_above-requires g c =
     let read = component_at s c.components.result.now i c.components.ensures c.requires.entered in
     let room = parent_room s limits (get_or c.components.result.now i unread) i c.from-echelons.result e in
     let here : e < c.from-echelons.result = omega arith in
-    (room (length l.tags) read last c.requires.entered here (omega arith), (room (length l.working) read last c.requires.entered here (omega arith), (omega arith, omega arith)))
+    record { tag = room (length l.tags) read last c.requires.entered here (omega arith); cost = room (length l.working) read last c.requires.entered here (omega arith); few = (omega arith, omega arith) }
 
 pub loop-echelon-init : goal.loop-echelon-init
 loop-echelon-init g c = (

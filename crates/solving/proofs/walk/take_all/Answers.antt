@@ -22,7 +22,7 @@ pub take_component-taken-requires : goal.take_component-taken-requires
 take_component-taken-requires g c =
     let h = c.in-Some.ensures.steps in
     let last = last_left (model c.args.problem.now.study.now) _ _ c.in-Some.number _ _ c.in-Some.component.now c.loop-number.invariant.0 h.0 h.1.0 h.1.1 in
-    record { entered = last.2; tables_long_enough = (omega (arith, c.requires.tables_long_enough), omega (arith, c.requires.tables_long_enough)) }
+    record { entered = last.2; tags = omega (arith, c.requires.tags); working = omega (arith, c.requires.working) }
 
 pub loop-number-preserved : goal.loop-number-preserved
 loop-number-preserved g c =
@@ -34,7 +34,7 @@ loop-number-preserved g c =
     let last = last_left s _ _ n _ _ comp l.invariant.0 h.0 h.1.0 h.1.1 in (
       last.0,
       λ o offers blank. subst (λ i. Done g.K.CostKind.adding g.K.CostKind.lower s o i c.add_top-total.result (set l.notes n c.take_component-taken.result.bytes) (view c.take_component-taken.new.tags c.take_component-taken.new.working)) (sym last.3)
-          (one_taken g.K.CostKind.adding g.K.CostKind.lower s (limited c.args.problem.now.study.now) o c.args.problem.now.survey.now c.args.shut.now _ n comp l.total c.add_top-total.result c.take_component-taken.result l.notes (view l.tags l.working) (view c.take_component-taken.new.tags c.take_component-taken.new.working) last.4 last.2 (omega (arith, last.2, c.requires.notes_long_enough)) last.1 offers (l.invariant.1 o offers blank) c.take_component-taken.ensures c.add_top-total.ensures),
+          (one_taken g.K.CostKind.adding g.K.CostKind.lower s (limited c.args.problem.now.study.now) o c.args.problem.now.survey.now c.args.shut.now _ n comp l.total c.add_top-total.result c.take_component-taken.result l.notes (view l.tags l.working) (view c.take_component-taken.new.tags c.take_component-taken.new.working) last.4 last.2 (omega (arith, last.2, c.requires.notes)) last.1 offers (l.invariant.1 o offers blank) c.take_component-taken.ensures c.add_top-total.ensures),
     )
 
 pub returns : goal.returns

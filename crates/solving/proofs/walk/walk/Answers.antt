@@ -15,7 +15,7 @@ use Rattle.solving.proofs.walk.walk.Goals as goal
 pub take_all-total-requires : goal.take_all-total-requires
 take_all-total-requires g c =
     let s = limited c.args.problem.now.study.now in
-    record { tables_long_enough = (mul-le _ _ 60 4 s.few_components s.few_echelons, c.requires); notes_long_enough = s.few_components }
+    record { tags = mul-le _ _ 60 4 s.few_components s.few_echelons; working = c.requires; notes = s.few_components }
 
 pub returns : goal.returns
 returns g c limits b kept keeps =
