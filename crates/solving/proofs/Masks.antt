@@ -1,7 +1,9 @@
 -- The mask of the resources that are shut, against what an option needs.
 use Rattle.std.proofs.Common.{◌≡◌, ℕ, zero, suc, ◌+◌, ◌*◌, ◌/◌, ◌%◌, ◌^◌, ◌<◌, ◌≤◌, Bool, true, false, not, ◌&&◌, ◌||◌, eqb, List, [], get_or, sym, refl, ap, ◌∙◌, mod-lt, mod-eq_of_lt, one-mul, div-add-mod', add-one, arith, pow_pos, pow-add}
-use lib.Bits.{bit_and, and_block, and_mod, and_le_r, and_mask, and_zero_r}
+use lib.Bits.{bit_and, bit_or, and_block, and_mod, and_le_r, and_mask, and_zero_r}
 use Rattle.std.proofs.lemmas.Bool.{ne_eqb, lt-ltb}
+use Rattle.std.proofs.lemmas.Nat.{or_disjoint}
+use Rattle.std.proofs.Math.Nat.{div-eq_of_lt}
 use Rattle.model.specs.declared.component.Needs.{Needs}
 use Rattle.model.specs.declared.question.RepairOption.{RepairOption}
 use Rattle.model.specs.Components.{need, needs_resource}
@@ -22,14 +24,6 @@ unfolding shut_mask
 mask_lt marks e zero = omega arith
 mask_lt marks e (suc r) = omega (arith, mask_lt marks e r, bit_le (get_or (get_or marks r []) e Held) r, pow-add 2 1 r)
 
--- one resource more, by the line of its marks
-pub mask_more : (marks : List (List Mark)) (line : List Mark) (e r mask b : ℕ) → (mask ≡ shut_mask marks e r) × (mask < 2 ^ r) → line ≡ get_or marks r [] → b ≡ bit_of (get_or line e Held) r → (mask + b ≡ shut_mask marks e (r + 1)) × (mask + b < 2 ^ (r + 1))
-unfolding shut_mask
-mask_more marks line e r mask b m same q =
-    let is : b ≡ bit_of (get_or (get_or marks r []) e Held) r = q ∙ ap (λ l. bit_of (get_or l e Held) r) same in
-    let le = bit_le (get_or (get_or marks r []) e Held) r in
-    (rw add-one (ap (λ v. v + b) m.0 ∙ ap (λ v. shut_mask marks e r + v) is), omega (arith, pow-add 2 r 1))
-
 -- ---- the bits that a mask has in common with the needs
 low : (a s r : ℕ) → s < 2 ^ r → bit_and (a % 2 ^ r) s ≡ bit_and a s
 low a s r h =
@@ -46,6 +40,24 @@ top a s r h =
     ∙ and_block r (a / 2 ^ r) 1 (a % 2 ^ r) s (mod-lt a (pow_pos r)) h
     ∙ ap (λ (v : ℕ). v * 2 ^ r + bit_and (a % 2 ^ r) s) (and_mask (a / 2 ^ r) 1)
     ∙ ap (λ (v : ℕ). a / 2 ^ r % 2 * 2 ^ r + v) (low a s r h)
+
+-- the bit of the next resource is in no mask of those before it
+apart : (a r : ℕ) (m : Mark) → a < 2 ^ r → bit_and a (bit_of m r) ≡ 0
+apart a r Held h = and_zero_r a
+apart a r Free h = and_zero_r a
+apart a r Shut h =
+    let none : a / 2 ^ r ≡ 0 = div-eq_of_lt h in
+    let plain : 2 ^ r ≡ 0 + 2 ^ r = omega arith in
+    ap (bit_and a) plain ∙ top a 0 r (pow_pos r) ∙ ap (λ (v : ℕ). v % 2 * 2 ^ r + bit_and a 0) none ∙ ap (λ v. 0 * 2 ^ r + v) (and_zero_r a) ∙ omega arith
+
+-- one resource more, by the line of its marks
+pub mask_more : (marks : List (List Mark)) (line : List Mark) (e r mask b : ℕ) → (mask ≡ shut_mask marks e r) × (mask < 2 ^ r) → line ≡ get_or marks r [] → b ≡ bit_of (get_or line e Held) r → (bit_or mask b ≡ shut_mask marks e (r + 1)) × (bit_or mask b < 2 ^ (r + 1))
+unfolding shut_mask
+mask_more marks line e r mask b m same q =
+    let is : b ≡ bit_of (get_or (get_or marks r []) e Held) r = q ∙ ap (λ l. bit_of (get_or l e Held) r) same in
+    let le = bit_le (get_or (get_or marks r []) e Held) r in
+    let joined : bit_or mask b ≡ mask + b = or_disjoint mask b (ap (bit_and mask) is ∙ apart mask r (get_or (get_or marks r []) e Held) m.1) in
+    (joined ∙ rw add-one (ap (λ v. v + b) m.0 ∙ ap (λ v. shut_mask marks e r + v) is), omega (arith, joined, pow-add 2 r 1))
 
 or_nothing : (x y : Bool) → x ≡ x || (y && false)
 or_nothing true y = refl

@@ -25,7 +25,7 @@ fn shut_mask(marks: &Marks, echelon: usize, resources: u8) -> u8
 {
     let mut mask = 0;
     for (resource, line) in marks[..usize::from(resources)].iter().enumerate() {
-        mask += bit(line[echelon], resource);
+        mask |= bit(line[echelon], resource);
     }
     mask
 }
