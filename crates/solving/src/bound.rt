@@ -1,14 +1,14 @@
 // The bound of some marks: the plan of a walk, at its cost with the postings of the held pairs.
-ghost use Rattle.std.specs.Prelude.{◌≡◌, ◌≤◌, length};
+ghost use Rattle.std.specs.Prelude.{◌≡◌};
 ghost use Rattle.model.specs.Studies.{model};
 ghost use Rattle.planning.specs.Surveys.{by_echelon};
 ghost use Rattle.solving.specs.Marked.{is_held, held_at};
-ghost use Rattle.solving.specs.Working.{cells};
 ghost use Rattle.solving.specs.Bounds.{AddsHeld, Bounds};
 
 use crate::best::Best;
 use crate::mark::{Mark, Marks};
 use crate::problem::Problem;
+use crate::table::Table;
 use crate::walk::walk;
 use costs::kind::CostKind;
 use planning::totals::plus_row;
@@ -44,15 +44,12 @@ fn plus_held<K: CostKind>(
 }
 
 // What the walk found, with the postings of the held pairs, and without them where it found no plan.
-pub(crate) fn bound<K: CostKind>(
-    problem: &Problem<K>,
-    marks: &Marks,
-    working: &mut [K::Cost],
-) -> Best<K::Cost>
-    requires { cells (model problem.now.study.now) ≤ length working.old }
-    ensures { Bounds K.adding K.lower (model problem.now.study.now) problem.now.survey.now marks.now result }
+pub(crate) fn bound<K: CostKind>(table: &mut Table<K>, marks: &Marks) -> Best<K::Cost>
+    ensures bounds { Bounds K.adding K.lower (model table.old.problem.now.study.now) table.old.problem.now.survey.now marks.now result }
+    ensures same { table.new.problem ≡ table.old.problem }
 {
-    let found = walk(problem, marks, working);
+    let problem = table.problem;
+    let found = walk(table, marks);
     match found.cost {
         None => found,
         Some(_) => Best {

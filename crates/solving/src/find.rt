@@ -1,13 +1,12 @@
 // The search of all plans, which begins with no plan and with every open pair free.
-ghost use Rattle.std.specs.Prelude.{◌≡◌, ◌≤◌, length};
+ghost use Rattle.std.specs.Prelude.{◌≡◌};
 ghost use Rattle.model.specs.Studies.{model};
-ghost use Rattle.solving.specs.Working.{cells};
 ghost use Rattle.solving.specs.Least.{first_mark, first_line, FirstMarks, FindsLeast};
 
 use crate::best::Best;
 use crate::mark::{Mark, Marks};
-use crate::problem::Problem;
 use crate::search::search;
+use crate::table::Table;
 use costs::kind::CostKind;
 use costs::posting::Posting;
 use planning::table::{ByEchelon, Survey};
@@ -37,14 +36,13 @@ fn first_marks(survey: &Survey) -> Marks
 }
 
 // The least plan with its cost, the first in reading order; without a cost where there is no plan.
-pub(crate) fn find<K: CostKind>(problem: &Problem<K>, working: &mut [K::Cost]) -> Best<K::Cost>
-    requires { cells (model problem.now.study.now) ≤ length working.old }
-    ensures { FindsLeast K.adding K.lower (model problem.now.study.now) problem.now.survey.now result }
+pub(crate) fn find<K: CostKind>(table: &mut Table<K>) -> Best<K::Cost>
+    ensures { FindsLeast K.adding K.lower (model table.old.problem.now.study.now) table.old.problem.now.survey.now result }
 {
-    let marks = first_marks(problem.survey);
+    let marks = first_marks(table.problem.survey);
     let none = Best {
         cost: None,
         plan: [0; 60],
     };
-    search(problem, marks, none, working)
+    search(table, marks, none)
 }

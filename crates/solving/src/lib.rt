@@ -14,6 +14,7 @@ mod reading;
 mod search;
 pub mod solve;
 mod sum;
+mod table;
 mod tag;
 mod taking;
 mod walk;

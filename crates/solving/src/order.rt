@@ -1,7 +1,5 @@
 // Which of two plans with their costs comes before the other: by cost, and then by reading order.
-ghost use Rattle.std.specs.Prelude.{◌≡◌, ℕ, ◌≤◌, length, not, ◌&&◌, ◌||◌, nat_lt};
-ghost use Rattle.costs.specs.Kinds.{SumOf};
-ghost use Rattle.costs.specs.Postings.{most};
+ghost use Rattle.std.specs.Prelude.{◌≡◌, ◌≤◌, length, nat_lt};
 ghost use Rattle.plans.specs.Orders.{rank};
 ghost use Rattle.theory.specs.ReadingOrder.{row_number};
 ghost use Rattle.solving.specs.Bounds.{Ahead};
@@ -18,15 +16,8 @@ fn reads_before(first: &[u8], second: &[u8]) -> bool
     first < second
 }
 
-// Whether the cost a comes before the cost b: it is lower, or they are equal and the tie is decided for it.
-// Stays: a cost kind says which of two costs is lower and is no type with an order, so `<` cannot compare these (d).
-pub(crate) fn cost_precedes<K: CostKind>(kind: &K, a: K::Cost, b: K::Cost, tie: bool) -> bool
-    ensures { (m n : ℕ) → SumOf K.adding m a → SumOf K.adding n b → m ≤ most → n ≤ most → result ≡ K.lower a b || (not (K.lower b a) && tie) }
-{
-    kind.is_lower(a, b) || (!kind.is_lower(b, a) && tie)
-}
-
 // Whether the first comes before the second. What has no cost comes before nothing.
+// Stays: a cost kind says which of two costs is lower and is no type with an order, so `<` cannot compare these (d).
 pub(crate) fn is_ahead<K: CostKind>(
     kind: &K,
     first: &Best<K::Cost>,
@@ -40,8 +31,9 @@ pub(crate) fn is_ahead<K: CostKind>(
         (None, _) => false,
         (Some(_), None) => true,
         (Some(a), Some(b)) => {
-            let tie = reads_before(&first.plan[..count], &second.plan[..count]);
-            cost_precedes(kind, a, b, tie)
+            kind.is_lower(a, b)
+                || (!kind.is_lower(b, a)
+                    && reads_before(&first.plan[..count], &second.plan[..count]))
         }
     }
 }

@@ -6,6 +6,7 @@ ghost use Rattle.solutions.specs.Promises.{Ready, SolvesLeast};
 
 use crate::find::find;
 use crate::problem::Problem;
+use crate::table::Table;
 use costs::kind::CostKind;
 use model::book::ChargeBook;
 use model::refusal::Refusal;
@@ -43,7 +44,11 @@ pub fn solve<B: ChargeBook, K: CostKind>(
         study,
         survey: &survey,
     };
-    let found = find(&problem, working);
+    let mut table = Table {
+        problem: &problem,
+        working,
+    };
+    let found = find(&mut table);
     let cost = found.cost.ok_or(Refusal::NoPlan)?;
     plan[..count].copy_from_slice(&found.plan[..count]);
     Ok(cost)

@@ -33,6 +33,7 @@ pub(crate) fn take_component<K: CostKind>(
     requires working { cells (model problem.now.study.now) ≤ length working.old }
     ensures { TakesOne K.adding K.lower (model problem.now.study.now) problem.now.survey.now shut.now number (view tags.old working.old) (view tags.new working.new) result }
 {
+    // Stays: handed on beside its number, the component would need one more clause, that it is the one of that number (d).
     let component = problem.study.components()[number];
     let row = &problem.survey.options[number];
     let echelons = usize::from(problem.study.echelons());

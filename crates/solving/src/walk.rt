@@ -1,5 +1,5 @@
 // A walk: the least plan, first in reading order, among those that need no shut pair, counting option postings only.
-ghost use Rattle.std.specs.Prelude.{◌≤◌, length};
+ghost use Rattle.std.specs.Prelude.{◌≡◌, ◌≤◌, length};
 ghost use Rattle.model.specs.Studies.{model};
 ghost use Rattle.plans.specs.Questions.{count};
 ghost use Rattle.solving.specs.Finds.{Walks};
@@ -12,6 +12,7 @@ use crate::mark::Marks;
 use crate::problem::Problem;
 use crate::reading::read_off;
 use crate::sum::{Sum, cost_of};
+use crate::table::Table;
 use crate::tag::Tag;
 use crate::taking::take_component;
 use crate::working::add_top;
@@ -31,6 +32,7 @@ fn take_all<K: CostKind>(
     ensures { TakesAll K.adding K.lower (model problem.now.study.now) problem.now.survey.now shut.now (view tags.old working.old) notes.new result }
 {
     let mut total = Sum::Nothing;
+    // Stays: the number also says which row and which cells are the component's, so the notes are indexed by it too (d).
     for (number, component) in problem.study.components().iter().enumerate().rev() {
         let taken = take_component(problem, shut, number, tags, working);
         total = add_top(problem.kind, component.parent, total, taken.first);
@@ -40,20 +42,17 @@ fn take_all<K: CostKind>(
 }
 
 // Takes every component, and reads the plan off the notes.
-pub(crate) fn walk<K: CostKind>(
-    problem: &Problem<K>,
-    marks: &Marks,
-    working: &mut [K::Cost],
-) -> Best<K::Cost>
-    requires { cells (model problem.now.study.now) ≤ length working.old }
-    ensures { Walks K.adding K.lower (model problem.now.study.now) problem.now.survey.now marks.now result }
+pub(crate) fn walk<K: CostKind>(table: &mut Table<K>, marks: &Marks) -> Best<K::Cost>
+    ensures walks { Walks K.adding K.lower (model table.old.problem.now.study.now) table.old.problem.now.survey.now marks.now result }
+    ensures same { table.new.problem ≡ table.old.problem }
 {
+    let problem = table.problem;
     let shut = shut_masks(marks, problem.study.resources());
     // Stays: tables for the most components and echelons, since a walk needs no memory (a).
     let mut tags = [Tag::Nothing; 240];
     let mut notes = [[0; 4]; 60];
     let mut plan = [0; 60];
-    let total = take_all(problem, &shut, &mut tags, working, &mut notes);
+    let total = take_all(problem, &shut, &mut tags, table.working, &mut notes);
     read_off(problem.study, &notes, &mut plan);
     Best {
         cost: cost_of(total),

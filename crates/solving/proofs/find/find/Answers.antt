@@ -5,4 +5,4 @@ use Rattle.solving.proofs.FirstMarks.{finds_least}
 use Rattle.solving.proofs.find.find.Goals as goal
 
 pub returns : goal.returns
-returns g c = finds_least g.met.K.CostKind.laws (model c.args.problem.now.study.now) c.args.problem.now.survey.now (limited c.args.problem.now.study.now) c.args.problem.now.some_component c.first_marks-marks.result (λ r h. let few = (limited c.args.problem.now.study.now).few_resources in c.first_marks-marks.ensures r (omega arith)) _ c.search.result refl c.search.ensures
+returns g c = finds_least g.met.K.CostKind.laws (model c.args.table.now.problem.now.study.now) c.args.table.now.problem.now.survey.now (limited c.args.table.now.problem.now.study.now) c.args.table.now.problem.now.some_component c.first_marks-marks.result (λ r h. let few = (limited c.args.table.now.problem.now.study.now).few_resources in c.first_marks-marks.ensures r (omega arith)) _ c.search.result refl c.search.ensures.searches
