@@ -20,7 +20,7 @@ pub(crate) struct Choice<C: Copy> {
 
 // Whether the cost a of a choice with byte x comes before the cost b of one with byte y. At equal cost the smaller byte comes
 // first.
-// Stays: one test for these and for plans (`is_ahead`), handed the tie as a word (tried), makes bench/hard.study a seventh slower (b).
+// Stays: one test for these and for `is_ahead`, handed the tie as a word (tried), makes bench/hard.study a seventh slower (b).
 fn cost_precedes<K: CostKind>(kind: &K, a: K::Cost, x: u8, b: K::Cost, y: u8) -> bool
     ensures { (m n : ℕ) → SumOf K.adding m a → SumOf K.adding n b → m ≤ most → n ≤ most → result ≡ K.lower a b || (not (K.lower b a) && nat_lt (rank x) (rank y)) }
 {
