@@ -26,6 +26,7 @@ pub struct Fault {
 }
 
 // A charge where what is asked about is open; barred where it is not; or a fault.
+// Stays: `Result<Option<Charge>, Fault>` is no plainer: barred is an answer, and a layer hands a fault on as one, by no `?` (d).
 #[derive(Clone, Copy, PartialEq, Eq, Debug)]
 pub enum Answer {
     Charged(Charge),

@@ -5,7 +5,7 @@ ghost use Rattle.model.specs.Components.{need, needs_resource, parent_of, is_ent
 use crate::question::RepairOption;
 
 // The resources that each option needs: bit r of a mask, counted from the lowest, is set where resource r is needed.
-#[derive(Clone, Copy, PartialEq, Eq, Debug)]
+#[derive(Clone, Copy, Default, PartialEq, Eq, Debug)]
 pub struct Needs {
     pub discard: u8,
     pub repair: u8,

@@ -4,6 +4,8 @@ ghost use Rattle.model.specs.declared.refusal.Refusal.TheVariants.{BookFault};
 ghost use Rattle.model.specs.Refusals.{said};
 
 use crate::answer::Fault;
+use std::error::Error;
+use std::fmt;
 
 #[derive(Clone, Copy, PartialEq, Eq, Debug)]
 pub enum Refusal {
@@ -48,6 +50,15 @@ impl From<Fault> for Refusal {
         Refusal::BookFault(fault)
     }
 }
+
+// For a program that stops at a refusal; the line that programs print says all that a refusal carries.
+impl fmt::Display for Refusal {
+    fn fmt<W: fmt::Write>(&self, f: &mut fmt::Formatter<W>) -> fmt::Result {
+        write!(f, "the question of number {} failed", self.number())
+    }
+}
+
+impl Error for Refusal {}
 
 impl Refusal {
     // The number of the question that failed.
