@@ -9,7 +9,7 @@ pub(crate) fn is_echelon(echelon: u8) -> bool
     (1..=4).contains(&echelon)
 }
 
-// The echelons count from 1, and their indices from 0.
+// The index of an echelon, which counts from 0; none where it is not 1 to 4.
 pub(crate) fn index_of(echelon: u8) -> Option<usize>
     ensures { result ≡ cond (is_echelon echelon) (Some (echelon - 1)) None }
 {

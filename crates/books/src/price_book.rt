@@ -9,7 +9,7 @@ mod calls;
 pub mod charges;
 
 // Room for every row is reserved when a book is made, so that no later call needs memory.
-// Stays: `prices` is a plain definition; an `impl Model` would show callers the prices alone, without what each book keeps (d).
+// Stays: ghost fields and the definition `prices` beside them; an `impl Model` would show the prices alone, without the limits (d).
 #[derive(Drop)]
 pub struct PriceBook {
     rows: Vec<PriceRow>,

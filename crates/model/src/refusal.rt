@@ -1,5 +1,5 @@
 // Why a call was refused: the question that failed, with what it speaks of.
-ghost use Rattle.std.specs.Prelude.{◌≡◌};
+ghost use Rattle.std.specs.Prelude.{◌≡◌, ◌++◌, Some, codes, decimal};
 ghost use Rattle.model.specs.declared.refusal.Refusal.TheVariants.{BookFault};
 ghost use Rattle.model.specs.Refusals.{said};
 
@@ -53,6 +53,8 @@ impl From<Fault> for Refusal {
 
 // For a program that stops at a refusal; the line that programs print says all that a refusal carries.
 impl fmt::Display for Refusal {
+    ghost output = { λ r. Some (codes "the question of number " ++ (decimal (said r).number ++ codes " failed")) };
+
     fn fmt<W: fmt::Write>(&self, f: &mut fmt::Formatter<W>) -> fmt::Result {
         write!(f, "the question of number {} failed", self.number())
     }

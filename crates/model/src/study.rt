@@ -8,7 +8,7 @@ mod calls;
 mod reads;
 
 // Room for every component is reserved when a study is made, so that no later call needs memory.
-// Stays: `model` is a plain definition; an `impl Model` would show callers the model alone, without the limits it keeps (d).
+// Stays: ghost fields and the definition `model` beside them; an `impl Model` would show the model alone, without the limits (d).
 #[derive(Drop)]
 pub struct Study {
     echelons: u8,

@@ -23,7 +23,6 @@ impl PriceBook {
     }
 
     // Adds a row after the others, under the row of that number or, for 255, under none. Answers its number.
-    // Stays: no other call takes the price and its percents, so a struct of the three would only be made to be taken apart (d).
     pub fn add(
         &mut self,
         parent: u8,
@@ -57,6 +56,7 @@ impl PriceBook {
     }
 
     // Sets the yearly amount of one resource.
+    // Stays: tried as `get_mut`, by a match and by `?`; the book's limits after the lent place, and the answer, stay open (c).
     pub fn set_yearly(&mut self, resource: u8, cents: u64) -> Result<(), Refusal>
         ensures { (result, prices self.new) ≡ on_yearly (prices self.old) resource cents }
     {
