@@ -1,15 +1,13 @@
 // catalogue: prices plans for a small study from a price book, first as it stands and then with some questions barred.
 #![tactic(auto)]
 
-use anyhow::anyhow;
 use books::lent::Lent;
 use books::price_book::PriceBook;
 use books::ruling::Ruling;
 use costs::money::Money;
 use model::book::ChargeBook;
-use model::component::Needs;
+use model::component::{NO_PARENT, Needs};
 use model::question::{Question, RepairOption};
-use model::refusal::Refusal;
 use model::study::Study;
 use planning::price::price;
 use reports::refusal_line::refusal_line;
@@ -17,23 +15,17 @@ use std::alloc::Global;
 use std::env;
 use std::io::Write;
 
-// The error of a call that was refused.
-fn refused(_why: Refusal) -> anyhow::Error {
-    anyhow!("a call was refused")
-}
-
 // A radio with a module in it and a card in that, on two echelons. Each repair needs the one test bench.
 fn radio(heap: Global) -> anyhow::Result<Study> {
     let mut study = Study::blank(heap)?;
     let needs = Needs {
-        discard: 0,
         repair: 1,
-        moving: 0,
+        ..Needs::default()
     };
-    study.open(2, 1).map_err(refused)?;
-    study.enter(255, needs, 4_000).map_err(refused)?;
-    study.enter(0, needs, 2_500).map_err(refused)?;
-    study.enter(1, needs, 1_500).map_err(refused)?;
+    study.open(2, 1)?;
+    study.enter(NO_PARENT, needs, 4_000)?;
+    study.enter(0, needs, 2_500)?;
+    study.enter(1, needs, 1_500)?;
     Ok(study)
 }
 
@@ -41,10 +33,10 @@ fn radio(heap: Global) -> anyhow::Result<Study> {
 // year.
 fn prices(heap: Global) -> anyhow::Result<PriceBook> {
     let mut book = PriceBook::blank(heap)?;
-    book.add(255, 100, 5, 100).map_err(refused)?;
-    book.add(0, 40, 8, 100).map_err(refused)?;
-    book.add(1, 10, 20, 100).map_err(refused)?;
-    book.set_yearly(0, 50_000).map_err(refused)?;
+    book.add(NO_PARENT, 100, 5, 100)?;
+    book.add(0, 40, 8, 100)?;
+    book.add(1, 10, 20, 100)?;
+    book.set_yearly(0, 50_000)?;
     Ok(book)
 }
 
@@ -81,23 +73,19 @@ fn main(rt: HostRuntime) -> anyhow::Result<()> {
     println!(rt; "all repaired at echelon 2, by the price book:")?;
     show(&rt, &study, &book, &[4, 4, 4])?;
     let mut ruling = Ruling::over(Lent { below: &book });
-    ruling
-        .bar(Question::OfResource {
-            resource: 0,
-            echelon: 2,
-        })
-        .map_err(refused)?;
+    ruling.bar(Question::OfResource {
+        resource: 0,
+        echelon: 2,
+    })?;
     println!(rt; "the same, with no bench allowed at echelon 2:")?;
     show(&rt, &study, &ruling, &[4, 4, 4])?;
     println!(rt; "the radio repaired aboard, the module discarded:")?;
     show(&rt, &study, &ruling, &[2, 1, 0])?;
-    ruling
-        .bar(Question::OfOption {
-            component: 1,
-            echelon: 1,
-            option: RepairOption::Discard,
-        })
-        .map_err(refused)?;
+    ruling.bar(Question::OfOption {
+        component: 1,
+        echelon: 1,
+        option: RepairOption::Discard,
+    })?;
     println!(rt; "the same, with no discard of the module allowed aboard:")?;
     show(&rt, &study, &ruling, &[2, 1, 0])
 }

@@ -1,7 +1,7 @@
 // Small studies made at random, with the records of their charges.
 use crate::random::Random;
-use anyhow::anyhow;
-use model::component::Needs;
+use anyhow::Context;
+use model::component::{NO_PARENT, Needs};
 use model::question::{Question, RepairOption};
 use model::study::Study;
 
@@ -77,7 +77,7 @@ fn some_needs(random: &mut Random, resources: u8) -> u8 {
 // Enters one component under an earlier one, or at the top.
 fn add_component(random: &mut Random, study: &mut Study, number: u8) -> anyhow::Result<()> {
     let parent = if random.in_ten(4) || number == 0 {
-        255
+        NO_PARENT
     } else {
         random.below(number)
     };
@@ -90,7 +90,7 @@ fn add_component(random: &mut Random, study: &mut Study, number: u8) -> anyhow::
     let rate = 1 + u32::from(random.below(2));
     study
         .enter(parent, needs, rate)
-        .map_err(|_| anyhow!("a component was refused"))?;
+        .context("a component was refused")?;
     Ok(())
 }
 
@@ -104,29 +104,43 @@ fn size(random: &mut Random) -> (u8, u8) {
     }
 }
 
-// A study with its charges.
-pub(crate) fn make(rt: &HostRuntime, random: &mut Random) -> anyhow::Result<Made> {
-    let mut study = Study::blank(rt.alloc())?;
-    let mut charges = Vec::new(rt.alloc());
-    let (echelons, most) = size(random);
-    study
-        .open(echelons, random.below(3))
-        .map_err(|_| anyhow!("a study was refused"))?;
-    let count = random.below(most).saturating_add(1);
+// Enters so many components, each with the charges of its options.
+fn add_components(random: &mut Random, made: &mut Made, count: u8) -> anyhow::Result<()> {
     for number in 0..count {
-        add_component(random, &mut study, number)?;
-        for echelon in 1..=echelons {
-            add_options(random, &mut charges, number, echelon)?;
+        add_component(random, &mut made.study, number)?;
+        for echelon in 1..=made.study.echelons() {
+            add_options(random, &mut made.charges, number, echelon)?;
         }
     }
-    for resource in 0..study.resources() {
-        for echelon in 1..=echelons {
+    Ok(())
+}
+
+// Adds the charges of the resources, of 0 to 3 cents. A resource without a record is barred.
+fn add_resources(random: &mut Random, made: &mut Made) -> anyhow::Result<()> {
+    for resource in 0..made.study.resources() {
+        for echelon in 1..=made.study.echelons() {
             if random.in_ten(8) {
                 let question = Question::OfResource { resource, echelon };
                 let cents = i64::from(random.below(4));
-                add_record(random, &mut charges, question, cents)?;
+                add_record(random, &mut made.charges, question, cents)?;
             }
         }
     }
-    Ok(Made { study, charges })
+    Ok(())
+}
+
+// A study with its charges.
+pub(crate) fn make(rt: &HostRuntime, random: &mut Random) -> anyhow::Result<Made> {
+    let mut made = Made {
+        study: Study::blank(rt.alloc())?,
+        charges: Vec::new(rt.alloc()),
+    };
+    let (echelons, most) = size(random);
+    made.study
+        .open(echelons, random.below(3))
+        .context("a study was refused")?;
+    let count = random.below(most).saturating_add(1);
+    add_components(random, &mut made, count)?;
+    add_resources(random, &mut made)?;
+    Ok(made)
 }

@@ -59,7 +59,7 @@ fn try_one<B: ChargeBook, K: CostKind>(
     }
 }
 
-// Tries every assignment: five bytes from 0 to 6 at most.
+// Tries every assignment: five bytes from 0 to 6 at most, which are 16,807 assignments, so that 20,000 turns reach the last.
 pub(crate) fn try_all<B: ChargeBook, K: CostKind>(
     study: &Study,
     book: &B,
