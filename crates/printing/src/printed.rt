@@ -40,8 +40,8 @@ pub(crate) fn followed_by(
     })
 }
 
-// What is printed for the text of a report: the text, or the line of the refusal.
-pub(crate) fn printed(
+// The text of a report as it is, or a refusal as its line; what is left to fail is memory.
+pub(crate) fn in_full(
     heap: Global,
     text: Result<Vec<u8>, IntakeError>,
 ) -> Result<Printed, AllocError>

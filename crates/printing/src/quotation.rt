@@ -4,7 +4,7 @@ ghost use Rattle.model.specs.Studies.{model};
 ghost use Rattle.printing.specs.Shown.{shown, Prints};
 ghost use Rattle.printing.specs.Quoted.{quoted_for, quoted};
 
-use crate::printed::{Printed, printed, report_plan};
+use crate::printed::{Printed, in_full, report_plan};
 use crate::study::study_of;
 use costs::money::Money;
 use files::intake::IntakeError;
@@ -31,5 +31,5 @@ pub fn quote_plan(heap: Global, file: &[u8], plan: &[u8]) -> Result<Printed, All
     ensures { IfOk result (λ q. shown q ≡ quoted file.now plan.now) }
 {
     let text = study_of(heap, file).and_then(|study| quote_study(heap, &study, file, plan));
-    printed(heap, text)
+    in_full(heap, text)
 }

@@ -4,7 +4,7 @@ ghost use Rattle.model.specs.Studies.{model};
 ghost use Rattle.printing.specs.Shown.{shown, Prints};
 ghost use Rattle.printing.specs.Solutions.{solution_for, solution};
 
-use crate::printed::{Printed, printed, report_plan};
+use crate::printed::{Printed, in_full, report_plan};
 use crate::study::study_of;
 use costs::money::Money;
 use files::intake::IntakeError;
@@ -13,11 +13,11 @@ use model::study::Study;
 use solving::solve::solve;
 use std::alloc::{AllocError, Global};
 
-// Solves the study by money with the table book of the file. There is room for every study: 60 components, 4 echelons.
+// Solves the study by money with the table book of the file.
 pub(crate) fn solve_study(heap: Global, study: &Study, file: &[u8]) -> Result<Vec<u8>, IntakeError>
     ensures { Prints result (solution_for file.now (Ok (model study.now))) }
 {
-    // Stays: places for every study; vectors of this study's size would be two more calls that can fail (d).
+    // Stays: places for the largest study, 60 components and 4 echelons, need no length worked out (d).
     let mut plan = [0; 60];
     let mut working = [0; 240];
     let book = TableBook { bytes: file };
@@ -30,5 +30,5 @@ pub fn solve_file(heap: Global, file: &[u8]) -> Result<Printed, AllocError>
     ensures { IfOk result (λ q. shown q ≡ solution file.now) }
 {
     let text = study_of(heap, file).and_then(|study| solve_study(heap, &study, file));
-    printed(heap, text)
+    in_full(heap, text)
 }

@@ -7,7 +7,7 @@ use files::intake::{IntakeError, intake};
 use model::study::Study;
 use std::alloc::Global;
 
-// One byte more than the longest study file, so that a program that reads so many sees a longer one, which is refused, not cut.
+// How many bytes a program reads of a study file: one more than the longest has, so that a longer one is refused, and not cut.
 pub const MOST_READ: u64 = 65_521;
 
 // Takes the file in, and answers its study.

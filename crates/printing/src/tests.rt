@@ -14,9 +14,10 @@ T\0\x01D\0\0\0\0\0\0\0\0\0\0\0\x09\0\0\0\0\0\0\0\0\
 T\0\x01R\0\0\0\0\0\0\0\0\0\0\0\x05\0\0\0\0\0\0\0\0\
 F\0\x01\0\0\0\0\0\0\0\0\0\0\0\0\x02\0\0\0\0\0\0\0\0";
 
-// What is printed has these bytes, and a refusal among them or none.
-fn shows(rt: &impl Abort, printed: &Printed, report: bool, text: &[u8]) {
-    assert!(rt; printed.is_ok() == report);
+// What is printed has these bytes: Ok for reports, Err where there is a refusal among them.
+fn shows(rt: &impl Abort, printed: &Printed, wanted: Result<&[u8], &[u8]>) {
+    assert!(rt; printed.is_ok() == wanted.is_ok());
+    let (Ok(text) | Err(text)) = wanted;
     assert!(rt; text_of(printed) == text);
 }
 
@@ -27,17 +28,11 @@ fn change(record: usize, cents: i64) -> Change {
 
 #[test]
 fn prints(rt: HostRuntime) -> Result<(), Fail> {
-    shows(
-        &rt,
-        &solve_file(rt.alloc(), &FILE)?,
-        true,
-        b"0 D1\ntotal 9\n",
-    );
+    shows(&rt, &solve_file(rt.alloc(), &FILE)?, Ok(b"0 D1\ntotal 9\n"));
     shows(
         &rt,
         &solve_file(rt.alloc(), &FILE[0..48])?,
-        false,
-        b"refused 13\n",
+        Err(b"refused 13\n"),
     );
     Ok(())
 }
@@ -48,18 +43,17 @@ fn prints(rt: HostRuntime) -> Result<(), Fail> {
 fn prints_trials(rt: HostRuntime) -> Result<(), Fail> {
     let mut file = FILE;
     let dearer = try_file(rt.alloc(), &mut file, change(2, 3_000))?;
-    shows(&rt, &dearer, true, b"0 R1\ntotal 2005\n0 D1\ntotal 9\n");
+    shows(&rt, &dearer, Ok(b"0 R1\ntotal 2005\n0 D1\ntotal 9\n"));
     let refused = try_file(rt.alloc(), &mut file, change(1, 0))?;
-    shows(&rt, &refused, false, b"refused 37\n0 D1\ntotal 9\n");
+    shows(&rt, &refused, Err(b"refused 37\n0 D1\ntotal 9\n"));
     let beyond = try_file(rt.alloc(), &mut file, change(4, -1))?;
     shows(
         &rt,
         &beyond,
-        false,
-        b"refused 12 1 T 0 0 1 F\n0 D1\ntotal 9\n",
+        Err(b"refused 12 1 T 0 0 1 F\n0 D1\ntotal 9\n"),
     );
     let short = try_file(rt.alloc(), &mut file[0..23], change(0, 0))?;
-    shows(&rt, &short, false, b"refused 31\n");
+    shows(&rt, &short, Err(b"refused 31\n"));
     assert!(rt; file == FILE);
     Ok(())
 }

@@ -4,7 +4,7 @@ ghost use Rattle.model.specs.Studies.{model};
 ghost use Rattle.printing.specs.Shown.{shown, Prints};
 ghost use Rattle.printing.specs.Trials.{trial_text, tried_for, tried_and_solved};
 
-use crate::printed::{Printed, followed_by, printed, report_plan};
+use crate::printed::{Printed, followed_by, in_full, report_plan};
 use crate::solution::solve_study;
 use crate::study::study_of;
 use files::intake::IntakeError;
@@ -14,6 +14,7 @@ use trials::change::Change;
 use trials::trial::trial;
 
 // The trial of a change.
+// Stays: one body with `solve_study` but for the call; a closure's `F.pre` and `F.post` would be longer than what they save (d).
 fn try_change(
     heap: Global,
     study: &Study,
@@ -23,7 +24,7 @@ fn try_change(
     ensures text { Prints result (trial_text file.old change.record change.cents (model study.now)) }
     ensures file { file.new ≡ file.old }
 {
-    // Stays: places for every study; vectors of this study's size would be two more calls that can fail (d).
+    // Stays: places for the largest study, 60 components and 4 echelons, need no length worked out (d).
     let mut plan = [0; 60];
     let mut working = [0; 240];
     let cents = trial(study, file, change, &mut plan, &mut working)?;
@@ -40,18 +41,19 @@ fn try_and_solve(
     ensures text { IfOk result (λ q. shown q ≡ tried_for file.old change.record change.cents (Ok (model study.now))) }
     ensures file { file.new ≡ file.old }
 {
-    let tried = printed(heap, try_change(heap, study, file, change))?;
-    let solved = printed(heap, solve_study(heap, study, file))?;
+    let tried = in_full(heap, try_change(heap, study, file, change))?;
+    let solved = in_full(heap, solve_study(heap, study, file))?;
     followed_by(heap, &tried, &solved)
 }
 
 // Takes the file in, and tries the change of a record for the study that it makes. The file is as before.
+// Stays: a study gives two texts that are already in full, a refusal one line, so that `and_then` has no one type for both (d).
 pub fn try_file(heap: Global, file: &mut [u8], change: Change) -> Result<Printed, AllocError>
     ensures text { IfOk result (λ q. shown q ≡ tried_and_solved file.old change.record change.cents) }
     ensures file { file.new ≡ file.old }
 {
     match study_of(heap, file) {
         Ok(study) => try_and_solve(heap, &study, file, change),
-        Err(why) => printed(heap, Err(why)),
+        Err(why) => in_full(heap, Err(why)),
     }
 }

@@ -14,4 +14,4 @@ no_study file j z (Refused why) taken e = ap (tried_for file j z) e
 no_study file j z OutOfMemory taken e = tt
 
 pub returns-in-Err-clause-text : goal.returns-in-Err-clause-text
-returns-in-Err-clause-text c = c.printed.ensures _ (no_study c.args.file.now c.args.change.record c.args.change.cents c.in-Err.why _ c.in-Err.ensures)
+returns-in-Err-clause-text c = c.in_full.ensures _ (no_study c.args.file.now c.args.change.record c.args.change.cents c.in-Err.why _ c.in-Err.ensures)
