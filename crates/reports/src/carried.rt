@@ -21,6 +21,7 @@ fn cause_number(cause: Cause) -> u8
 
 impl Writer<'_> {
     // Puts a blank and a number: for a byte at most 4 bytes, and for a record's number at most 6.
+    // Stays: tried `number` for the digits; how long they are at most is known from `format` alone, and `number` asks it first.
     pub(crate) fn word<I: Integer>(&mut self, number: I)
         requires { HasRoom self.old (1 + I.MAX_STR_LEN) }
         ensures puts { Puts self.old (codes " " ++ I.text number) self.new }

@@ -33,13 +33,14 @@ impl Writer<'_> {
 
     // Puts the line of a component: two blanks for each indenture level above 1, its number, and what its byte decides.
     pub(crate) fn line(&mut self, level: u8, number: u8, byte: u8)
-        requires level_in_range { (1 ≤ level) × (level ≤ 5) }
+        requires level_from { 1 ≤ level }
+        requires level_to { level ≤ 5 }
         requires room { Room self.old (replicate (2 * (level - 1)) 32 ++ component_line number byte) }
         ensures { Puts self.old (replicate (2 * (level - 1)) 32 ++ component_line number byte) self.new }
     {
         let blanks = [b' '; 8];
         let indent = 2 * (level as usize - 1);
-        self.bytes(&blanks[0..indent]);
+        self.bytes(&blanks[..indent]);
         self.number(number);
         self.bytes(b" ");
         self.decision(byte);

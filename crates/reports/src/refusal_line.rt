@@ -27,9 +27,9 @@ pub fn refusal_bytes(refusal: &Refusal) -> [u8; 40]
     ensures line { result ≡ in_40_bytes (refusal_line refusal.now) }
     ensures fits { length (refusal_line refusal.now) ≤ 40 }
 {
-    let mut line = [0; 40];
-    let _end = put_refusal(&mut line, refusal);
-    line
+    let mut bytes = [0; 40];
+    put_refusal(&mut bytes, refusal);
+    bytes
 }
 
 // The line of a refusal, with byte 10 at its end.
@@ -39,5 +39,5 @@ pub fn refusal_line(heap: Global, refusal: &Refusal) -> Result<Vec<u8>, AllocErr
 {
     let mut line = [0; 40];
     let end = put_refusal(&mut line, refusal);
-    line[0..end].to_vec(heap)
+    line[..end].to_vec(heap)
 }

@@ -22,7 +22,8 @@ fn next_under(study: &Study, parent: Option<u8>, from: usize) -> Option<usize>
 // Stays: study and plan are handed on between these two alone; a struct of them would be made for one call of `report` (d).
 #[cycle(put_entry_put_list)]
 fn put_entry(study: &Study, plan: &[u8], number: usize, writer: &mut Writer<'_>)
-    requires component_has_byte { (number < count (model study.now)) × (count (model study.now) ≤ length plan.now) }
+    requires in_study { number < count (model study.now) }
+    requires byte_for_each { count (model study.now) ≤ length plan.now }
     requires room { Room writer.old (entry_text (model study.now) plan.now number) }
     ensures { Puts writer.old (entry_text (model study.now) plan.now number) writer.new }
 {

@@ -6,4 +6,4 @@ use Rattle.reports.proofs.refusal_line.refusal_bytes.Goals as goal
 pub returns-clause-line : goal.returns-clause-line
 returns-clause-line c =
     let line = refusal_line c.args.refusal.now in
-    c.put_refusal-end.ensures.holds ∙ ap (λ l. line ++ l) (drop-replicate (length line) 40 0)
+    c.put_refusal.ensures.holds ∙ ap (λ l. line ++ l) (drop-replicate (length line) 40 0)

@@ -39,20 +39,26 @@ module _ (s : Model) (plan : List ℕ) where
   line_by : (i : ℕ) {x : Component} → x ≡ component s i → replicate (2 * (x.level - 1)) 32 ++ component_line i (byte plan i) ≡ line s plan i
   line_by i e = ap (λ (y : Component). replicate (2 * (y.level - 1)) 32 ++ component_line i (byte plan i)) e
 
-pub put_entry-line-requires-clause-level_in_range : goal.put_entry-line-requires-clause-level_in_range
-put_entry-line-requires-clause-level_in_range t c =
+pub put_entry-line-requires-clause-level_from : goal.put_entry-line-requires-clause-level_from
+put_entry-line-requires-clause-level_from t c =
     let s = model c.args.study.now in
-    let limits = limited c.args.study.now in
-    let h = c.requires.component_has_byte.0 in
+    let h = c.requires.in_study in
     let same = ap (λ (x : Component). x.level) (read s c.components.result.now c.components.ensures c.args.number h) in
-    (omega (arith, same, level_low s limits c.args.number h), omega (arith, same, level_high s limits c.args.number h))
+    omega (arith, same, level_low s (limited c.args.study.now) c.args.number h)
+
+pub put_entry-line-requires-clause-level_to : goal.put_entry-line-requires-clause-level_to
+put_entry-line-requires-clause-level_to t c =
+    let s = model c.args.study.now in
+    let h = c.requires.in_study in
+    let same = ap (λ (x : Component). x.level) (read s c.components.result.now c.components.ensures c.args.number h) in
+    omega (arith, same, level_high s (limited c.args.study.now) c.args.number h)
 
 pub put_entry-line-requires-clause-room : goal.put_entry-line-requires-clause-room
 put_entry-line-requires-clause-room t c =
     let s = model c.args.study.now in
     let plan = c.args.plan.now in
     let i = c.args.number in
-    let h = c.requires.component_has_byte.0 in
+    let h = c.requires.in_study in
     let text = ap length (line_by s plan i (read s c.components.result.now c.components.ensures i h)) in
     let both = ap length (entry_lines s plan (limited c.args.study.now) i h) in
     omega (arith, text, both, length-append (line s plan i) (list_text s plan (Some i)), c.requires.room)
@@ -63,18 +69,18 @@ put_entry-put_list-requires t c =
     let limits = limited c.args.study.now in
     let plan = c.args.plan.now in
     let i = c.args.number in
-    let h = c.requires.component_has_byte.0 in
+    let h = c.requires.in_study in
     let x = read s c.components.result.now c.components.ensures i h in
     let high = level_high s limits i h in
     let Fits : List ℕ → Type 0 = λ l. Room c.args.writer.now l in
-    (omega arith, (c.requires.component_has_byte.1, room_then (list_text s plan (Some i)) (puts_same (line_by s plan i x) c.line.ensures) (subst Fits (entry_lines s plan limits i h) c.requires.room)))
+    (omega arith, (c.requires.byte_for_each, room_then (list_text s plan (Some i)) (puts_same (line_by s plan i x) c.line.ensures) (subst Fits (entry_lines s plan limits i h) c.requires.room)))
 
 pub put_entry-returns : goal.put_entry-returns
 put_entry-returns t c =
     let s = model c.args.study.now in
     let plan = c.args.plan.now in
     let i = c.args.number in
-    let h = c.requires.component_has_byte.0 in
+    let h = c.requires.in_study in
     let x = read s c.components.result.now c.components.ensures i h in
     puts_same (sym (entry_lines s plan (limited c.args.study.now) i h)) (puts_then (puts_same (line_by s plan i x) c.line.ensures) c.put_list.ensures)
 
@@ -83,7 +89,7 @@ put_list-put_entry-requires t c =
     let s = model c.args.study.now in
     let found = c.in-Some.ensures in
     let deep = level_is s (limited c.args.study.now) c.args.parent c.in-Some.number found.1 found.2 in
-    (omega arith, ((found.1, c.requires.byte_for_each), next_room s c.args.plan.now c.args.parent c.loop-number.from c.in-Some.number found c.loop-number.invariant.1 c.requires.room))
+    (omega arith, (found.1, (c.requires.byte_for_each, next_room s c.args.plan.now c.args.parent c.loop-number.from c.in-Some.number found c.loop-number.invariant.1 c.requires.room)))
 
 pub put_list-loop-number-preserved : goal.put_list-loop-number-preserved
 put_list-loop-number-preserved t c =
