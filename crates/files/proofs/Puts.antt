@@ -10,7 +10,7 @@ use Rattle.files.specs.Intakes.{accepted, on_kind, on_study}
 use Rattle.files.proofs.Numbers.{number_same}
 
 -- the bytes after the first four
-abbrev rest : List ℕ → List ℕ
+abbrev pub rest : List ℕ → List ℕ
 rest r = take (length r - 4) (drop 4 r)
 
 rest_byte : (r : List ℕ) (k j : ℕ) → 4 + k ≡ j → byte (rest r) k ≡ byte r j

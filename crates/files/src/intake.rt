@@ -74,11 +74,11 @@ fn is_filled(record: &Record) -> bool
     }
 }
 
-// The answer to record number `at` where the study answered so to the call that the record makes.
+// What record number `at` comes to, by what the study answered to its call: where the study refused, the record is refused.
 fn on_answer<A: Drop>(at: u16, answer: Result<A, Refusal>) -> Result<(), Refusal>
     ensures { (s : Model) → leaving result s ≡ accepted at (answer, s) }
 {
-    // Stays: the line of such a refusal prints the number of the study's own.
+    // Stays: (a) a refusal within a refusal would need heap; its number is what the line prints.
     answer.map(|_| ()).map_err(|why| Refusal::RecordRefused {
         record: at,
         number: why.number(),
@@ -104,7 +104,10 @@ fn put(study: &mut Study, at: u16, record: &Record) -> Result<(), Refusal>
                 repair: rest[0],
                 moving: rest[1],
             };
-            on_answer(at, study.enter(*echelon, needs, rate(rest)))
+            on_answer(
+                at,
+                study.enter(*echelon, needs, rate(rest.as_array().unwrap())),
+            )
         }
         _ => Ok(()),
     }

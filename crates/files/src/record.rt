@@ -33,17 +33,15 @@ fn bytes<const N: usize>(rest: &[u8], from: usize) -> [u8; N]
 }
 
 // The rate of a component, in a record's bytes from the fifth on.
-pub(crate) fn rate(rest: &[u8]) -> u32
-    requires { length rest.now ≡ 20 }
-    ensures { result ≡ number_at rest.now 4 4 }
+pub(crate) fn rate(rest: &[u8; 20]) -> u32
+    ensures { result ≡ number_at «rest».now 4 4 }
 {
     u32::from_be_bytes(bytes(rest, 4))
 }
 
 // A charge, in a record's bytes from the fifth on.
-pub(crate) fn charge(rest: &[u8]) -> Charge
-    requires { length rest.now ≡ 20 }
-    ensures { result ≡ charge_at rest.now 4 }
+pub(crate) fn charge(rest: &[u8; 20]) -> Charge
+    ensures { result ≡ charge_at «rest».now 4 }
 {
     Charge {
         cents: i64::from_be_bytes(bytes(rest, 4)),

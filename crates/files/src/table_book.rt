@@ -43,7 +43,7 @@ fn charge_for(record: &Record, question: Question) -> Option<Charge>
     let [kind, number, echelon, letter, rest @ ..] = record.as_slice() else {
         return None;
     };
-    names(*kind, *number, *echelon, *letter, question).then(|| charge(rest))
+    names(*kind, *number, *echelon, *letter, question).then(|| charge(rest.as_array().unwrap()))
 }
 
 // Whether a charge keeps the limits that hold for the question.
