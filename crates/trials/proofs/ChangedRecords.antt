@@ -1,8 +1,11 @@
 -- A file with other cents in one record, record by record.
-use Rattle.std.proofs.Common.{◌≡◌, ℕ, ◌+◌, ◌*◌, ◌/◌, ◌<◌, ◌≤◌, true, ltb, ◌⊎◌, List, map, length, get_or, drop, ℤ, sym, refl, ap, ◌∙◌, inl, inr, ⊎_elim, zero-add, arith, length-drop, length-take, w64, SFits, to_z, of_z}
+use Rattle.std.proofs.Common.{◌≡◌, ℕ, ◌+◌, ◌*◌, ◌/◌, ◌<◌, ◌≤◌, true, false, Bool, ◌&&◌, Some, None, Option, ltb, ◌⊎◌, List, map, length, get_or, drop, ℤ, sym, refl, ap, ◌∙◌, inl, inr, ⊎_elim, zero-add, arith, length-drop, length-take, w64, SFits, to_z, of_z}
 use lib.Signed.{lt_z}
 use mir.ValLaws.{of_z_fits}
 use Rattle.std.specs.List.{range_with_len, between}
+use Rattle.std.specs.Option.{is_some, IfSome}
+use Rattle.std.specs.Prelude.{MatchOption}
+use Rattle.std.specs.Simd.{first_chunks}
 use Rattle.std.proofs.lemmas.List.FromFn.{length-map-range_with_len, get_or-map-range_with_len}
 use Rattle.std.proofs.lemmas.List.Edits.{length-between, get_or-between}
 use Rattle.std.proofs.lemmas.List.{ext_get_or, get_or-take, get_or-drop}
@@ -15,6 +18,7 @@ use Rattle.files.specs.Intakes.{is_charge}
 use Rattle.files.specs.TableAnswers.{table_answers}
 use Rattle.files.specs.Writes.{bytes_of}
 use Rattle.files.proofs.Numbers.{bytes_again, number_again, number_same, number_small}
+use Rattle.files.proofs.RecordLists.{chunks_records, records_length}
 use Rattle.files.proofs.RecordRows.{record_readable}
 use Rattle.solutions.specs.Solved.{solved}
 use Rattle.trials.specs.Changes.{is_charge_record, cents_bytes, with_bytes, with_cents}
@@ -24,6 +28,17 @@ use Rattle.trials.proofs.Changes.{as_long, byte_outside, byte_inside, own_bytes}
 -- a record that can be tried is a whole one
 pub whole : (file : List ℕ) (j : ℕ) → is_charge_record file j ≡ true → 24 * j + 24 ≤ length file
 whole file j h = omega (arith, ltb-true j (length file / 24) (and_parts (ltb j (length file / 24)) (is_charge (kind (record_at file j))) h).0)
+
+-- whether record j, as the code looks it up, can be tried
+pub possible : {X : Type 0} (now : X → List ℕ) (file : List ℕ) (j : ℕ) (rs : List (List ℕ)) (r : Option X) (b : Bool) → rs ≡ first_chunks 24 (length file / 24) file → is_some r ≡ ltb j (length rs) → IfSome r (λ x. now x ≡ get_or rs j (now x)) → MatchOption r (b ≡ false) (λ x. b ≡ is_charge (kind (now x))) → b ≡ is_charge_record file j
+possible now file j rs None b cut there same is =
+    let n = ap length (cut ∙ chunks_records file) ∙ records_length file in
+    is ∙ ap (λ t. t && is_charge (kind (record_at file j))) (there ∙ ap (ltb j) n)
+possible now file j rs (Some x) b cut there same is =
+    let n = ap length (cut ∙ chunks_records file) ∙ records_length file in
+    let inside : j < length file / 24 = ltb-true j (length file / 24) (sym (there ∙ ap (ltb j) n)) in
+    let read = same ∙ ap (λ l. get_or l j (now x)) (cut ∙ chunks_records file) ∙ get_or-map-range_with_len (record_at file) 0 (length file / 24) j j (now x) inside (omega arith) in
+    is ∙ ap (λ l. is_charge (kind l)) read ∙ ap (λ t. t && is_charge (kind (record_at file j))) (there ∙ ap (ltb j) n)
 
 -- byte k of record i
 record_byte : (file : List ℕ) (i k : ℕ) → k < 24 → byte (record_at file i) k ≡ get_or file (24 * i + k) 0

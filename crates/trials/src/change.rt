@@ -1,6 +1,5 @@
 // The change that a trial makes: other cents in one record of a charge.
 ghost use Rattle.std.specs.Prelude.{◌≡◌, ◌+◌, ◌*◌, ◌^◌, ◌<◌};
-ghost use Rattle.files.specs.Intakes.{is_charge};
 ghost use Rattle.trials.specs.Changes.{is_charge_record, cents_bytes};
 
 use files::record::RECORD_LENGTH;
@@ -15,23 +14,19 @@ pub struct Change {
     pub cents: i64,
 }
 
-// Whether records of that kind enter charges.
-fn is_charge(kind: u8) -> bool
-    ensures { result ≡ is_charge kind }
-{
-    matches!(kind, b'T' | b'F')
-}
-
 impl Change {
     // Whether the record is a whole T or F of the file.
     pub(crate) fn is_possible(self, file: &[u8]) -> bool
         ensures { result ≡ is_charge_record file.now self.record }
     {
-        self.record < file.len() / RECORD_LENGTH && is_charge(file[RECORD_LENGTH * self.record])
+        let (records, _) = file.as_chunks::<RECORD_LENGTH>();
+        records
+            .get(self.record)
+            .is_some_and(|record| matches!(record[0], b'T' | b'F'))
     }
 
     // Where the cents stand in the file.
-    pub(crate) fn place(self) -> usize
+    pub(crate) fn start(self) -> usize
         requires { 24 * self.record + 24 < 2 ^ 64 }
         ensures { result ≡ 24 * self.record + 8 }
     {

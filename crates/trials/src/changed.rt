@@ -4,7 +4,7 @@ ghost use Rattle.std.specs.List.{between};
 ghost use Rattle.trials.specs.Changes.{with_bytes};
 
 // The changed bytes begin at byte `at`; `before` is what stood there.
-// Stays: tried `at + 8 ≤ length bytes.now` as a ghost field; the check covers no loan of bytes from a struct that has one.
+// Stays: tried `at + 8 ≤ length bytes.now` as a ghost field; the check then covers no loan of `changed.bytes` in `trial`.
 pub(crate) struct Changed<'a> {
     pub bytes: &'a mut [u8],
     at: usize,

@@ -16,14 +16,14 @@ T\0\x01D\0\0\0\0\0\0\0\0\0\0\0\x09\0\0\0\0\0\0\0\0\
 T\0\x01R\0\0\0\0\0\0\0\0\0\0\0\x05\0\0\0\0\0\0\0\0\
 F\0\x01\0\0\0\0\0\0\0\0\0\0\0\0\x02\0\0\0\0\0\0\0\0";
 
-// The number of a refusal.
-fn number(refusal: Refusal) -> i64 {
-    i64::from(refusal.number())
-}
-
-// What a trial answers: the byte of the plan, 0 where it was refused; and the cost or the number of the refusal. The file has
-// to be as before.
-fn tried(rt: &impl Abort, study: &Study, record: usize, cents: i64) -> Result<(u8, i64), Fail> {
+// What a trial answers: the byte of the plan and the cost, or the number of the refusal, where the plan's byte stays 0. The
+// file has to be as before.
+fn tried(
+    rt: &impl Abort,
+    study: &Study,
+    record: usize,
+    cents: i64,
+) -> Result<Result<(u8, i64), u8>, Fail> {
     let mut file = FILE;
     let mut plan = [0];
     let mut working = [0];
@@ -35,10 +35,9 @@ fn tried(rt: &impl Abort, study: &Study, record: usize, cents: i64) -> Result<(u
         &mut working,
     );
     assert!(rt; file == FILE, "the file is as before");
-    match answer {
-        Ok(cost) => Ok((plan[0], cost)),
-        Err(why) => Ok((plan[0], number(why))),
-    }
+    let [byte] = plan;
+    assert!(rt; answer.is_ok() || byte == 0, "a refusal leaves the plan");
+    Ok(answer.map(|cost| (byte, cost)).map_err(|why| why.number()))
 }
 
 #[test]
@@ -47,27 +46,27 @@ fn tries(rt: HostRuntime) -> Result<(), Fail> {
     intake(&mut study, rt.alloc(), &FILE)?;
     let cases = [
         // the discard, which is the first record of a charge: as it stands, dearer, and a scrap return
-        (2, 9, 1, 9),
-        (2, 3_000, 2, 2_005),
-        (2, -7, 1, -7),
+        (2, 9, Ok((1, 9))),
+        (2, 3_000, Ok((2, 2_005))),
+        (2, -7, Ok((1, -7))),
         // the repair, and the resource, which is the last record: at the limits and beyond them
-        (3, -1_000_000_000, 2, -999_998_000),
-        (3, -1_000_000_001, 0, 12),
-        (3, 1_000_000_000, 1, 9),
-        (3, 1_000_000_001, 0, 12),
-        (4, 0, 2, 5),
-        (4, -1, 0, 12),
-        (4, 1_000_000_000_000, 1, 9),
-        (4, 1_000_000_000_001, 0, 12),
-        (4, i64::MIN, 0, 12),
+        (3, -1_000_000_000, Ok((2, -999_998_000))),
+        (3, -1_000_000_001, Err(12)),
+        (3, 1_000_000_000, Ok((1, 9))),
+        (3, 1_000_000_001, Err(12)),
+        (4, 0, Ok((2, 5))),
+        (4, -1, Err(12)),
+        (4, 1_000_000_000_000, Ok((1, 9))),
+        (4, 1_000_000_000_001, Err(12)),
+        (4, i64::MIN, Err(12)),
         // no T or F: the N, the C, past the end, and far past it
-        (0, 1, 0, 37),
-        (1, 1, 0, 37),
-        (5, 1, 0, 37),
-        (usize::MAX, 1, 0, 37),
+        (0, 1, Err(37)),
+        (1, 1, Err(37)),
+        (5, 1, Err(37)),
+        (usize::MAX, 1, Err(37)),
     ];
-    for (record, cents, byte, answer) in cases {
-        assert_eq!(rt; tried(&rt, &study, record, cents)?, (byte, answer));
+    for (record, cents, answer) in cases {
+        assert_eq!(rt; tried(&rt, &study, record, cents)?, answer);
     }
     Ok(())
 }

@@ -19,7 +19,7 @@ use solving::solve::solve;
 // Solves the study by money with the table book of the file as it now stands. It is handed the file for writing, as the one
 // who changed it has it, and only reads it.
 // Stays: tried `solve` on `changed.bytes` in `trial`; of bytes lent as `&` from a field the check keeps the length alone.
-pub(crate) fn solve_by_file(
+fn solve_by_file(
     study: &Study,
     file: &mut [u8],
     plan: &mut [u8],
@@ -48,6 +48,6 @@ pub fn trial(
     if !change.is_possible(file) {
         return Err(Refusal::NoChargeRecord);
     }
-    let changed = Changed::set(file, change.place(), change.bytes());
+    let changed = Changed::set(file, change.start(), change.bytes());
     solve_by_file(study, changed.bytes, plan, working)
 }

@@ -13,7 +13,7 @@ returns-clause-tries c = record {
       let file = c.args.file.now in
       let inside = whole file c.args.change.record (sym c.is_possible.ensures ∙ c.if-not-is_possible.false) in
       let before = c.set-changed.result.before in
-      let over = restored file c.bytes.result c.place.result (omega (arith, c.place.ensures)) (ap length c.bytes.ensures) before c.set-changed.ensures.kept in
+      let over = restored file c.bytes.result c.start.result (omega (arith, c.start.ensures)) (ap length c.bytes.ensures) before c.set-changed.ensures.kept in
       let back : c.drop-changed.new.self.0 ≡ file = cc in
       let lent = sym c.set-changed.ensures.lent in
       search rules;
