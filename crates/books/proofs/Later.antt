@@ -1,43 +1,28 @@
--- The rows after a row, each with its number.
-use Rattle.std.proofs.Common.{◌≡◌, ℕ, ◌+◌, ◌-◌, ◌<◌, Bool, cond, List, length, get_or, drop, sym, ap, ◌∙◌, arith, length-drop}
-use Rattle.std.specs.List.{enumerate_from}
-use Rattle.std.proofs.lemmas.List.{get_or-drop, get_or_read}
-use Rattle.std.proofs.lemmas.List.FromFn.{length-enumerate_from, get_or-enumerate_from}
+-- The rows after a row, and what each of them adds to its gross price.
+use Rattle.std.proofs.Common.{◌≡◌, ℕ, ◌+◌, ◌-◌, ◌<◌, Bool, cond, List, length, get_or, take, drop, sym, ap, ◌∙◌, arith, length-take, length-drop}
+use Rattle.std.proofs.lemmas.List.{get_or-take, get_or-drop}
 use Rattle.books.specs.declared.price_row.PriceRow.{PriceRow}
 use Rattle.books.specs.PriceRows.{no_row}
 use Rattle.books.specs.Gross.{is_under, gross}
 use Rattle.books.proofs.Grossing.{under_from, under_more}
 
-abbrev pub later : ℕ → List PriceRow → List (ℕ × PriceRow)
-later p rows = drop (p + 1) (enumerate_from 0 rows)
+abbrev pub later : ℕ → List PriceRow → List PriceRow
+later p rows = take (length rows - (p + 1)) (drop (p + 1) rows)
 
--- the number and the row that stand at k among them
-pub record Later (p : ℕ) (rows : List PriceRow) (k i : ℕ) (r : PriceRow) : Type 0 where
-  pub number : i ≡ p + 1 + k
-  pub there : i < length rows
-  pub row : r ≡ get_or rows i no_row
+-- the row that stands at k among them is one of the rows
+later_below : (p k : ℕ) (rows : List PriceRow) → k < length (later p rows) → p + 1 + k < length rows
+later_below p k rows l = omega (arith, length-take (length rows - (p + 1)) (drop (p + 1) rows), length-drop (p + 1) rows)
 
-pub length_later : (p : ℕ) (rows : List PriceRow) → length (later p rows) ≡ length rows - (p + 1)
-length_later p rows = omega (arith, length-drop (p + 1) (enumerate_from 0 rows), length-enumerate_from 0 rows)
-
-pub later_at : (p : ℕ) (rows : List PriceRow) (k i : ℕ) (r : PriceRow) → k < length (later p rows) → (i, r) ≡ get_or (later p rows) k (i, r) → Later p rows k i r
-later_at p rows k i r l e =
-    let n = p + 1 + k in
-    let ln : n < length rows = omega (arith, length_later p rows) in
-    let found = e ∙ get_or-drop (p + 1) (enumerate_from 0 rows) k (i, r) ∙ get_or-enumerate_from 0 rows n (i, r) ln in
-    let number : i ≡ n = omega (arith, ap (λ (x : ℕ × PriceRow). x.0) found) in
-    let row : r ≡ get_or rows n r = ap (λ (x : ℕ × PriceRow). x.1) found in
-    record {
-      number = number;
-      there = omega arith;
-      row = get_or_read rows n r ln row no_row ∙ ap (λ j. get_or rows j no_row) (sym number);
-    }
+later_row : (p k : ℕ) (rows : List PriceRow) → k < length (later p rows) → get_or (later p rows) k no_row ≡ get_or rows (p + 1 + k) no_row
+later_row p k rows l =
+    let few : k < length rows - (p + 1) = omega (arith, later_below p k rows l) in
+    get_or-take _ (drop (p + 1) rows) k no_row few ∙ get_or-drop (p + 1) rows k no_row
 
 -- the sum over the later rows, by the row at k: it is taken or left
-pub later_more : {p k i : ℕ} {r : PriceRow} (rows : List PriceRow) (b : Bool) (n : ℕ) → Later p rows k i r → b ≡ is_under p r → n ≡ k + 1 → under_from p rows (p + 1 + k) ≡ cond b (gross rows i) 0 + under_from p rows (p + 1 + n)
-later_more {p} {k} {i} {r} rows b n h test next =
-    let at : p + 1 + k ≡ i = sym h.number in
-    let past : i + 1 ≡ p + 1 + n = omega (arith, h.number) in
-    let same : is_under p (get_or rows i no_row) ≡ b = sym (test ∙ ap (is_under p) h.row) in
-    ap (under_from p rows) at ∙ under_more p rows i h.there ∙ ap (λ t. cond t (gross rows i) 0 + under_from p rows (i + 1)) same
-    ∙ ap (λ j. cond b (gross rows i) 0 + under_from p rows j) past
+pub later_more : (p k : ℕ) (rows : List PriceRow) (b : Bool) → k < length (later p rows) → b ≡ is_under p (get_or (later p rows) k no_row) → under_from p rows (p + 1 + k) ≡ cond b (gross rows (p + 1 + k)) 0 + under_from p rows (p + 1 + (k + 1))
+later_more p k rows b l test =
+    let i = p + 1 + k in
+    let same = sym (test ∙ ap (is_under p) (later_row p k rows l)) in
+    let next : i + 1 ≡ p + 1 + (k + 1) = omega arith in
+    under_more p rows i (later_below p k rows l) ∙ ap (λ t. cond t (gross rows i) 0 + under_from p rows (i + 1)) same
+    ∙ ap (λ j. cond b (gross rows i) 0 + under_from p rows j) next

@@ -11,9 +11,9 @@ pub(crate) fn gross_price(rows: &[PriceRow], row: usize) -> u32
     ensures { result ≡ gross rows.now row }
 {
     let mut sum = rows[row].net;
-    for (child, other) in rows.iter().enumerate().skip(row + 1) {
+    for (after, other) in rows[row + 1..].iter().enumerate() {
         if other.is_under(row) {
-            sum += gross_price(rows, child);
+            sum += gross_price(rows, row + 1 + after);
         }
     }
     sum
