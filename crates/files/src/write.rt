@@ -1,9 +1,9 @@
 // Writing a study as a file of N and C records into a place that the caller has.
-ghost use Rattle.std.specs.Prelude.{◌≡◌};
+ghost use Rattle.std.specs.Prelude.{◌≡◌, length};
 ghost use Rattle.model.specs.Studies.{model};
 ghost use Rattle.files.specs.Writes.{encoded, on_write};
 
-use crate::record::{RECORD_LENGTH, Record};
+use crate::record::RECORD_LENGTH;
 use model::component::{NO_PARENT, Needs};
 use model::refusal::Refusal;
 use model::study::Study;
@@ -15,9 +15,10 @@ const NO_NEEDS: Needs = Needs {
     moving: 0,
 };
 
-// The bytes of an N or a C: the kind letter, bytes 1 and 2, the needs and the rate; all else is 0.
-fn encode(kind: u8, first: u8, second: u8, needs: Needs, rate: u32) -> Record
-    ensures { result ≡ encoded kind first second needs rate }
+// Fills the 24 bytes of an N or a C: the kind letter, bytes 1 and 2, the needs and the rate; all else is 0.
+fn encode(place: &mut [u8], kind: u8, first: u8, second: u8, needs: Needs, rate: u32)
+    requires { length place.old ≡ 24 }
+    ensures { place.new ≡ encoded kind first second needs rate }
 {
     let Needs {
         discard,
@@ -25,10 +26,10 @@ fn encode(kind: u8, first: u8, second: u8, needs: Needs, rate: u32) -> Record
         moving,
     } = needs;
     let [a, b, c, d] = rate.to_be_bytes();
-    [
+    place.copy_from_slice(&[
         kind, first, second, discard, repair, moving, 0, 0, a, b, c, d, 0, 0, 0, 0, 0, 0, 0, 0, 0,
         0, 0, 0,
-    ]
+    ]);
 }
 
 // Writes the study's N and C records, one after another, into the front of the place. Answers how many bytes they are. What
@@ -41,19 +42,25 @@ pub fn write(study: &Study, place: &mut [u8]) -> Result<usize, Refusal>
     if place.len() < length {
         return Err(Refusal::ShortPlace);
     }
-    let opening = encode(b'N', study.echelons(), study.resources(), NO_NEEDS, 0);
-    place[..RECORD_LENGTH].copy_from_slice(&opening);
+    encode(
+        &mut place[..RECORD_LENGTH],
+        b'N',
+        study.echelons(),
+        study.resources(),
+        NO_NEEDS,
+        0,
+    );
     for (i, component) in components.iter().enumerate() {
         // Stays: a middle part is lent by its bounds, a named form; chunks lent in turn tell nothing of the place afterwards.
         let at = i + 1;
-        let entry = encode(
+        encode(
+            &mut place[RECORD_LENGTH * at..RECORD_LENGTH * at + RECORD_LENGTH],
             b'C',
             i as u8,
             component.parent.unwrap_or(NO_PARENT),
             component.needs,
             component.rate,
         );
-        place[RECORD_LENGTH * at..RECORD_LENGTH * at + RECORD_LENGTH].copy_from_slice(&entry);
     }
     Ok(length)
 }

@@ -15,12 +15,12 @@ loop-i-preserved c =
     let count = written_count s in
     let l : i < length s.components = omega arith in
     let d : Component = record { parent = no_component.parent; level = 0; needs = no_component.needs; rate = 0 } in
-    let encoded-here : c.copy_from_slice-in-loop-i.new.self ≡ component_record i (get_or s.components i d) = search rules in
-    row_more (written_records s) (i + 1) c.loop-i.place _ c.copy_from_slice-in-loop-i.new.self _ _ (written_whole s) (omega arith) (omega arith) (omega arith) c.loop-i.invariant (encoded-here ∙ sym (written_read s d i l))
+    let encoded-here : c.encode-in-loop-i.new.place ≡ component_record i (get_or s.components i d) = search rules in
+    row_more (written_records s) (i + 1) c.loop-i.place _ c.encode-in-loop-i.new.place _ _ (written_whole s) (omega arith) (omega arith) (omega arith) c.loop-i.invariant (encoded-here ∙ sym (written_read s d i l))
 
 pub returns : goal.returns
 returns c =
     let s = model c.args.study.now in
     let same = ap length c.components-components.ensures in
-    let size = ap length (c.copy_from_slice.ensures.after ∙ c.encode-opening.ensures) in
-    written_all s c.loop-i.i _ c.loop-i.place c.copy_from_slice.new.self c.args.place.now (omega arith) (omega arith) (omega arith) (omega arith) c.loop-i.invariant
+    let size = ap length c.encode.ensures in
+    written_all s c.loop-i.i _ c.loop-i.place c.encode.new.place c.args.place.now (omega arith) (omega arith) (omega arith) (omega arith) c.loop-i.invariant
