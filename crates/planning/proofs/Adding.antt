@@ -8,7 +8,7 @@ use Rattle.costs.specs.Postings.{Within, most}
 use Rattle.plans.specs.Ranges.{upto}
 use Rattle.plans.specs.Postings.{plus_posting, plus_postings, summed}
 use Rattle.plans.proofs.Joined.{sums_append}
-use Rattle.planning.specs.Sums.{Summable, Adds, if_used, at_four, of_resource, used_at}
+use Rattle.planning.specs.Sums.{Summable, Adds, if_used, of_resource, used_at}
 
 -- what holds of each of two joined lists
 all_parts : {A : Type 0} (P : A → Type 0) (xs ys : List A) → AllByRecursion P (xs ++ ys) → AllByRecursion P xs × AllByRecursion P ys
@@ -17,19 +17,6 @@ all_parts P (x ∷ xs) ys all = let rest = all_parts P xs ys all.1 in ((all.0, r
 
 pub summable_front : (ps qs : List Posting) → Summable (ps ++ qs) → Summable ps
 summable_front ps qs fit = ((all_parts Within ps qs fit.0).0, omega (arith, fit.1, length-append ps qs))
-
--- f at the numbers from n on, with what a row keeps for each
-abbrev pub numbered : {A : Type 0} → (ℕ → A → List Posting) → ℕ → List A → List Posting
-numbered f n [] = []
-numbered f n (x ∷ xs) = f n x ++ numbered f (n + 1) xs
-
-pub numbered_four : {A : Type 0} (f : ℕ → A → List Posting) (none : A) (row : List A) → length row ≡ 4 → numbered f 1 row ≡ at_four f none row
-numbered_four f none (w ∷ x ∷ y ∷ z ∷ []) four = ap (λ t. f 1 w ++ (f 2 x ++ (f 3 y ++ t))) (append-nil (f 4 z))
-numbered_four f none [] four = absurd (omega arith)
-numbered_four f none (w ∷ []) four = absurd (omega arith)
-numbered_four f none (w ∷ x ∷ []) four = absurd (omega arith)
-numbered_four f none (w ∷ x ∷ y ∷ []) four = absurd (omega arith)
-numbered_four f none (w ∷ x ∷ y ∷ z ∷ v ∷ row) four = absurd (omega arith)
 
 -- the postings of what is used, each beside the word whether it is
 abbrev pub beside : List Bool → List (Option Posting) → List Posting
@@ -113,16 +100,6 @@ module _ {C : Type 0} (k : Adding C) where
       let joined : beside us ps ≡ if_used u p ++ beside vs qs = ap (λ x. beside x ps) e ∙ ap (beside (u ∷ vs)) f in
       subst (λ t. Adds k a t r) (sym joined) (adds_then a b r (if_used u p) (beside vs qs) first rest)
 
-  -- one more of those that are numbered
-  pub adds_numbered : {A : Type 0} (f : ℕ → A → List Posting) (a b r : Option C) (n e m : ℕ) (xs ys : List A) (x : A) → e ≡ n → m ≡ n + 1 → xs ≡ x ∷ ys → Adds k a (f e x) b → Adds k b (numbered f m ys) r → Adds k a (numbered f n xs) r
-  adds_numbered f a b r n e m xs ys x here next more first rest =
-      let joined : numbered f n xs ≡ f e x ++ numbered f m ys = ap (numbered f n) more ∙ ap (λ j. f j x ++ numbered f (n + 1) ys) (sym here) ∙ ap (λ j. f e x ++ numbered f j ys) (sym next) in
-      subst (λ t. Adds k a t r) (sym joined) (adds_then a b r (f e x) (numbered f m ys) first rest)
-
-  pub adds_none_numbered : {A : Type 0} (f : ℕ → A → List Posting) (sum : Option C) (n : ℕ) (xs : List A) → length xs ≡ 0 → Adds k sum (numbered f n xs) sum
-  adds_none_numbered f sum n [] none = adds_none sum
-  adds_none_numbered f sum n (x ∷ xs) none = absurd (omega arith)
-
   -- and none
   pub adds_no_more : (sum : Option C) (us : List Bool) (ps : List (Option Posting)) → us ≡ [] → Adds k sum (beside us ps) sum
   adds_no_more sum us ps e = subst (λ x. Adds k sum (beside x ps) sum) (sym e) (adds_none sum)
@@ -134,3 +111,6 @@ module _ {C : Type 0} (k : Adding C) where
 
   pub adds_three : (a b c d : Option C) (xs ys zs : List Posting) → Adds k a xs b → Adds k b ys c → Adds k c zs d → Adds k a (xs ++ (ys ++ zs)) d
   adds_three a b c d xs ys zs first second third = adds_then a b d xs (ys ++ zs) first (adds_then b c d ys zs second third)
+
+  pub adds_four : (a b c d e : Option C) (ws xs ys zs : List Posting) → Adds k a ws b → Adds k b xs c → Adds k c ys d → Adds k d zs e → Adds k a (ws ++ (xs ++ (ys ++ zs))) e
+  adds_four a b c d e ws xs ys zs first second third fourth = adds_then a b e ws (xs ++ (ys ++ zs)) first (adds_three b c d e xs ys zs second third fourth)

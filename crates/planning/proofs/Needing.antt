@@ -52,6 +52,3 @@ pub any_needs : (s : Model) (plan : List ℕ) (r e : ℕ) (xs : List Component) 
 any_needs s plan r e xs same =
     let each : (k : ℕ) → k < length xs → needs_read s plan r e (0 + k) (get_or xs k no_component) ≡ needs_at s plan r e k = λ k l. let n : 0 + k ≡ k = omega arith in ap (λ j. needs_read s plan r e j (get_or xs k no_component)) n ∙ ap (needs_read s plan r e k) (component_read s xs k no_component same l) in
     any_numbered (needs_read s plan r e) 0 xs no_component ∙ some_same _ _ (length xs) each ∙ ap (some_below (needs_at s plan r e)) (ap length same)
-
-pub any_of_three : {A : Type 0} (f : A → Bool) (x y z : A) → list_any f (x ∷ y ∷ z ∷ []) ≡ f x || (f y || f z)
-any_of_three f x y z = ap (λ b. f x || (f y || b)) (or-false (f z))

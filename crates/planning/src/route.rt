@@ -66,11 +66,12 @@ impl Route {
     }
 
     // Whether the component needs that resource at that echelon.
+    // Stays: as `any` over OPTIONS (tried) a call takes a quarter more steps and bench/hard.study a tenth longer (b).
     pub(crate) fn needs(self, echelon: u8, resource: u8) -> bool
         ensures { result ≡ needs_resource_on self resource echelon }
     {
-        OPTIONS
-            .iter()
-            .any(|option| self.needs_by(echelon, resource, *option))
+        self.needs_by(echelon, resource, RepairOption::Discard)
+            || self.needs_by(echelon, resource, RepairOption::Repair)
+            || self.needs_by(echelon, resource, RepairOption::Move)
     }
 }

@@ -68,6 +68,7 @@ impl Draft<'_> {
 
 // Adds what a component uses at the echelons 1 to 4.
 // Stays: kind and sum go side by side here and below; tried as a struct with `add(&mut self, ..)`; its loops were not proved (c).
+// Stays: the four echelons by name; over a zip no edit that takes one echelon for another could be told from its form (d).
 fn plus_component<K: CostKind>(
     kind: &K,
     sum: Option<K::Cost>,
@@ -76,11 +77,11 @@ fn plus_component<K: CostKind>(
 ) -> Option<K::Cost>
     ensures { Adds K.adding sum (of_component route.start route.byte row.now) result }
 {
-    let mut total = sum;
-    for (echelon, choices) in (1..5).zip(row) {
-        total = plus_echelon(kind, total, route, echelon, *choices);
-    }
-    total
+    let [first, second, third, fourth] = *row;
+    let sum = plus_echelon(kind, sum, route, 1, first);
+    let sum = plus_echelon(kind, sum, route, 2, second);
+    let sum = plus_echelon(kind, sum, route, 3, third);
+    plus_echelon(kind, sum, route, 4, fourth)
 }
 
 // Adds what a component uses at one echelon: discard, repair, move.
