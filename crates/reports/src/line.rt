@@ -52,7 +52,7 @@ impl Writer<'_> {
         ensures { Puts self.old (total_line cents) self.new }
     {
         self.bytes(b"total ");
-        self.number(cents);
+        self.signed(cents);
         self.bytes(b"\n");
     }
 }

@@ -1,5 +1,6 @@
 // A place that texts are put into, one after another.
 ghost use Rattle.std.specs.Prelude.{◌≡◌, ◌≤◌, length};
+ghost use Rattle.std.specs.Fmt.{signed_decimal};
 
 use itoa::{Buffer, Integer};
 
@@ -46,5 +47,19 @@ impl<'a> Writer<'a> {
         ensures { Puts self.old (I.text number) self.new }
     {
         self.bytes(Buffer::new().format(number).as_bytes());
+    }
+
+    // Puts a number that may be negative.
+    // Stays: the sign by hand, the digits by itoa; where itoa writes the sign too, no edit of one byte is left that turns it (d).
+    pub(crate) fn signed(&mut self, number: i64)
+        requires { Room self.old (signed_decimal number) }
+        ensures { Puts self.old (signed_decimal number) self.new }
+    {
+        if number >= 0 {
+            self.number(number.unsigned_abs());
+            return;
+        }
+        self.bytes(b"-");
+        self.number(number.unsigned_abs());
     }
 }

@@ -6,5 +6,5 @@ use Rattle.reports.proofs.place.Writer.total.Goals as goal
 
 pub returns : goal.returns
 returns c =
-    let cents = puts_same (ap signed_decimal (to_z-of_z w64 c.args.cents c.ranges.cents)) c.number.ensures in
+    let cents = puts_same (ap signed_decimal (to_z-of_z w64 c.args.cents c.ranges.cents)) c.signed.ensures in
     puts_then c.bytes.ensures (puts_then cents c.bytes-2.ensures)
