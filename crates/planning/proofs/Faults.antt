@@ -1,11 +1,13 @@
 -- The first fault where lists of questions are asked one after another.
-use Rattle.std.proofs.Common.{◌≡◌, ℕ, zero, suc, ◌+◌, ◌<◌, List, [], ◌∷◌, ◌++◌, Some, None, Option, refl, ap, ◌∙◌, subst, inl, inr, add-one, arith}
-use Rattle.std.proofs.lemmas.Bool.{cases_lt}
+use Rattle.std.proofs.Common.{◌≡◌, ℕ, zero, suc, ◌+◌, ◌<◌, ◌≤◌, Bool, cond, List, [], ◌∷◌, ◌++◌, Some, None, Option, Ok, Result, sym, refl, ap, ◌∙◌, subst, inl, inr, append_assoc, append-nil, add-one, arith}
+use Rattle.std.proofs.lemmas.Bool.{cases_lt, le-leb, lt-leb}
 use Rattle.model.specs.declared.question.Question.{Question}
 use Rattle.model.specs.declared.answer.Fault.{Fault}
 use Rattle.model.specs.Books.{Book}
 use Rattle.plans.specs.Ranges.{upto, or_else}
 use Rattle.plans.specs.Questions.{first_fault, fault_of}
+use Rattle.planning.specs.Asking.{Asked}
+use Rattle.planning.specs.Surveys.{until}
 
 regroup : {A : Type 0} (x y z : Option A) → or_else x (or_else y z) ≡ or_else (or_else x y) z
 regroup None y z = refl
@@ -39,4 +41,36 @@ upto_stops b f (suc n) i {x} h p q =
           let p2 : first_fault b (upto f n) ≡ None = subst (λ k. first_fault b (upto f k) ≡ None) e p in
           let q2 : first_fault b (f n) ≡ Some x = subst (λ k. first_fault b (f k) ≡ Some x) e q in
           past b (upto f n) (f n) p2 q2
+    ]
+
+-- what is asked at the echelons up to the last is what is asked at the echelons 1 to 4, where those past the last have
+-- nothing
+four_echelons : (questions : ℕ → List Question) (last : ℕ) → last ≤ 4 → upto (λ k. questions (suc k)) last ≡ until last [] questions 1 ++ (until last [] questions 2 ++ (until last [] questions 3 ++ until last [] questions 4))
+four_echelons questions zero h = refl
+four_echelons questions (suc zero) h = sym (append-nil (questions 1))
+four_echelons questions (suc (suc zero)) h = ap (λ t. questions 1 ++ t) (sym (append-nil (questions 2)))
+four_echelons questions (suc (suc (suc zero))) h =
+    append_assoc (questions 1) (questions 2) (questions 3) ∙ ap (λ t. questions 1 ++ (questions 2 ++ t)) (sym (append-nil (questions 3)))
+four_echelons questions (suc (suc (suc (suc zero)))) h =
+    append_assoc (questions 1 ++ questions 2) (questions 3) (questions 4) ∙ append_assoc (questions 1) (questions 2) (questions 3 ++ questions 4)
+four_echelons questions (suc (suc (suc (suc (suc n))))) h = absurd (omega arith)
+
+-- so the first fault is that of the first echelon that has one
+pub echelon_faults : (b : Book) (questions : ℕ → List Question) (last : ℕ) → last ≤ 4 → first_fault b (upto (λ k. questions (suc k)) last) ≡ or_else (first_fault b (until last [] questions 1)) (or_else (first_fault b (until last [] questions 2)) (or_else (first_fault b (until last [] questions 3)) (first_fault b (until last [] questions 4))))
+echelon_faults b questions last h =
+    let w = until last [] questions 1 in
+    let x = until last [] questions 2 in
+    let y = until last [] questions 3 in
+    let z = until last [] questions 4 in
+    ap (first_fault b) (four_echelons questions last h)
+    ∙ faults_append b w (x ++ (y ++ z))
+    ∙ ap (or_else (first_fault b w)) (faults_append b x (y ++ z) ∙ ap (or_else (first_fault b x)) (faults_append b y z))
+
+-- what is answered at one echelon, where nothing is asked past the last
+pub until_asked : {A : Type 0} {Answers : ℕ → Result A Fault → Type 0} (b : Book) (questions : ℕ → List Question) (kept : ℕ → A) (last : ℕ) (none : A) → ((e : ℕ) (r : Result A Fault) → Answers e r → Asked b (questions e) (λ x. x ≡ kept e) r) → (e : ℕ) (r : Result A Fault) → (e ≤ last → Answers e r) × (last < e → r ≡ Ok none) → Asked b (until last [] questions e) (λ x. x ≡ until last none kept e) r
+until_asked b questions kept last none asks e r is =
+    let Is : Bool → Type 0 = λ t. Asked b (cond t (questions e) []) (λ x. x ≡ cond t (kept e) none) r in
+    elim (cases_lt last e) [
+      | inl l ↦ subst Is (sym (lt-leb e last l)) (subst (Asked b [] (λ x. x ≡ none)) (sym (is.1 l)) (refl, refl))
+      | inr g ↦ subst Is (sym (le-leb e last g)) (asks e r (is.0 g))
     ]

@@ -28,7 +28,7 @@ fn choices_open(route: Route, echelon: u8, choices: Choices) -> bool
 }
 
 // Whether every option that the component uses is open.
-// Stays: `1..5` here and below; tried as `1..=4`, but the library has no lemma on what that yields (c).
+// Stays: `1..5` here and below; tried as `1..=4`, but std has no `YieldsList-from_range` for such a range (c).
 fn options_open(route: Route, row: &ByEchelon<Choices>) -> bool
     ensures { result ≡ options_open route row.now }
 {

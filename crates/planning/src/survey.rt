@@ -1,5 +1,5 @@
 // The survey of a book: every question of a study is asked once, in order, up to the first fault.
-ghost use Rattle.std.specs.Prelude.{◌≡◌, ℕ, ◌<◌, ◌≤◌, List, Result};
+ghost use Rattle.std.specs.Prelude.{◌≡◌, ℕ, suc, ◌<◌, ◌≤◌, List, Ok, Result};
 ghost use Rattle.costs.specs.Postings.{Within};
 ghost use Rattle.model.specs.declared.answer.Fault.{Fault};
 ghost use Rattle.model.specs.declared.question.Question.{Question};
@@ -9,7 +9,7 @@ ghost use Rattle.model.specs.Studies.{model};
 ghost use Rattle.plans.specs.Ranges.{upto};
 ghost use Rattle.plans.specs.Postings.{posted};
 ghost use Rattle.planning.specs.Asking.{Learned, Postable, Asked, Filled, AskedChoices, AskedOptionRow, AskedOptions, AskedPair, AskedResourceRow, AskedResources};
-ghost use Rattle.planning.specs.Surveys.{Surveyed};
+ghost use Rattle.planning.specs.Surveys.{by_echelon, until, Surveyed};
 
 use crate::table::{ByEchelon, Choices, Survey};
 use costs::posting::Posting;
@@ -95,7 +95,7 @@ impl<B: ChargeBook> Inquiry<'_, B> {
     fn row(&self) -> Result<ByEchelon<Choices>, Fault>
         ensures { AskedOptionRow (B.meaning self.now.book.now) self.now.last self.now.rate self.now.number result }
     {
-        asked(self.last, [NO_CHOICES; 4], |place| self.at(place + 1))
+        asked_by_echelon(self.last, NO_CHOICES, |echelon| self.at(echelon))
     }
 }
 
@@ -108,6 +108,42 @@ fn pair_posting<B: ChargeBook>(
     ensures { AskedPair (B.meaning book.now) resource echelon result }
 {
     learned(1000, book.ask(Question::OfResource { resource, echelon }))
+}
+
+// Asks at one echelon. Past the last nothing is asked, and `none` is answered.
+fn asked_until<T: Copy, F: Fn(u8) -> Result<T, Fault>>(
+    last: u8,
+    echelon: u8,
+    none: T,
+    ask: &F,
+) -> Result<T, Fault>
+    requires callable { echelon ≤ last → F.pre ask.now echelon }
+    ensures { (echelon ≤ last → F.post ask.now echelon result) × (last < echelon → result ≡ Ok none) }
+{
+    if echelon > last {
+        Ok(none)
+    } else {
+        ask(echelon)
+    }
+}
+
+// Asks at each echelon in turn, up to the last or to the first fault. `none` stands for those past the last.
+// Stays: four calls; a loop that is handed a row and hands it back (tried) makes a survey by a price book a quarter slower (b).
+fn asked_by_echelon<T: Copy, F: Fn(u8) -> Result<T, Fault>>(
+    last: u8,
+    none: T,
+    ask: F,
+) -> Result<ByEchelon<T>, Fault>
+    requires few_echelons { last ≤ 4 }
+    requires callable { (e : ℕ) → e ≤ last → F.pre ask e }
+    ensures { (b : Book) (questions : ℕ → List Question) (kept : ℕ → T) → ((e : ℕ) (r : Result T Fault) → F.post ask e r → Asked b (questions e) (λ x. x ≡ kept e) r) → Asked b (upto (λ k. questions (suc k)) last) (λ x. x ≡ by_echelon (until last none kept)) result }
+{
+    Ok([
+        asked_until(last, 1, none, &ask)?,
+        asked_until(last, 2, none, &ask)?,
+        asked_until(last, 3, none, &ask)?,
+        asked_until(last, 4, none, &ask)?,
+    ])
 }
 
 // Asks for the numbers below a count in turn, up to the first fault. The places after theirs stay as they are.
@@ -155,11 +191,7 @@ fn resource_row<B: ChargeBook>(
     requires { last ≤ 4 }
     ensures { AskedResourceRow (B.meaning book.now) last resource result }
 {
-    asked(
-        last,
-        [None; 4],
-        |place| pair_posting(book, resource, place + 1),
-    )
+    asked_by_echelon(last, None, |echelon| pair_posting(book, resource, echelon))
 }
 
 // Asks for each resource.

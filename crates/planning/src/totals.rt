@@ -68,7 +68,7 @@ impl Draft<'_> {
 
 // Adds what a component uses at the echelons 1 to 4.
 // Stays: kind and sum go side by side here and below; tried as a struct with `add(&mut self, ..)`; its loops were not proved (c).
-// Stays: the four echelons by name; over a zip no edit that takes one echelon for another could be told from its form (d).
+// Stays: the four echelons by name; over a zip the edit of one was refused, but so was the same edit with the right number (d).
 fn plus_component<K: CostKind>(
     kind: &K,
     sum: Option<K::Cost>,

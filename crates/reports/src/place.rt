@@ -50,7 +50,7 @@ impl<'a> Writer<'a> {
     }
 
     // Puts a number that may be negative.
-    // Stays: the sign by hand, the digits by itoa; where itoa writes the sign too, no edit of one byte is left that turns it (d).
+    // Stays: the sign by hand, the digits by itoa; as itoa's, its edit was refused, but so was the same edit with a minus (d).
     pub(crate) fn signed(&mut self, number: i64)
         requires { Room self.old (signed_decimal number) }
         ensures { Puts self.old (signed_decimal number) self.new }
