@@ -34,7 +34,7 @@ pub(crate) fn take_component<K: CostKind>(
     ensures { TakesOne K.adding K.lower (model problem.now.study.now) problem.now.survey.now shut.now number (view tags.old working.old) (view tags.new working.new) result }
 {
     // Stays: handed on beside its number, the component would need one more clause, that it is the one of that number (d).
-    let component = &problem.study.components()[number];
+    let component = problem.study.components()[number];
     let row = &problem.survey.options[number];
     let echelons = usize::from(problem.study.echelons());
     let mut bytes = [0; 4];
